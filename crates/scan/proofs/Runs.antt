@@ -1,0 +1,97 @@
+-- What a scanner says, step by step.
+use Prim.Native.Nat.{ℕ, zero, suc, _+_, _-_, _<_, _≤_}
+use mathlib.Core.Path.{_≡_, refl, sym, ap, subst, _∙_}
+use mathlib.Core.Bool.{Bool, true, false, cond}
+use mathlib.Core.List.{List, [], _∷_, _++_}
+use mathlib.Core.Logic.{_⊎_, inl, inr}
+use native.Mathlib.Omega.{arith}
+use lib.Dec.{ltb, leb}
+use lib.ListN.{length, getD}
+use Rattle.std.proofs.shelf.Tests.{lt-ltb, le-ltb, cond-true, cond-false, cases-bool}
+use Rattle.std.specs.declared.result.Result.{Result}
+use Rattle.std.specs.declared.result.Result.the-variants.{Ok, Err}
+use Rattle.scan.specs.declared.refusal.Origin.{Origin}
+use Rattle.scan.specs.declared.refusal.Fault.{Fault}
+use Rattle.scan.specs.declared.refusal.FileFault.the-variants.{EndsTooSoon, Breaks}
+use Rattle.scan.specs.declared.refusal.FileRule.{FileRule}
+use Rattle.scan.specs.Faults.{faultAt}
+use Rattle.scan.specs.Scan.{Scan, done, refuse, ask, andThen, Out, good, bad, run, tested}
+use Rattle.scan.specs.Says.{Reads, Says, Next}
+
+pub run-done : {A : Type 0} (a : A) (s : List ℕ) (at : ℕ) → run (done a) s at ≡ good a at
+unfolding run
+run-done a s at = refl
+
+pub run-refuse : {A : Type 0} (o : Origin) (rule : FileRule) (s : List ℕ) (at : ℕ) → run {A = A} (refuse o rule) s (at + 1) ≡ bad (faultAt (Breaks rule) o at)
+unfolding run
+run-refuse o rule s at = ap (λ n. bad (faultAt (Breaks rule) o n)) (omega arith)
+
+pub run-ask : {A : Type 0} (o : Origin) (go : ℕ → Scan A) (s : List ℕ) (at : ℕ) → at < length s → run (ask o go) s at ≡ run (go (getD s at 0)) s (at + 1)
+unfolding run
+run-ask o go s at under = cond-true _ _ _ (lt-ltb at (length s) under)
+
+pub run-short : {A : Type 0} (o : Origin) (go : ℕ → Scan A) (s : List ℕ) (at : ℕ) → length s ≤ at → run (ask o go) s at ≡ bad (faultAt EndsTooSoon o at)
+unfolding run
+run-short o go s at past = cond-false _ _ _ (le-ltb at (length s) past)
+
+-- the same, by what `byte_at` ensures
+pub ask-goes : {A : Type 0} (o : Origin) (go : ℕ → Scan A) (s : List ℕ) (at b : ℕ) → (at < length s) × (b ≡ getD s at 0) → run (ask o go) s at ≡ run (go b) s (at + 1)
+ask-goes o go s at b h = run-ask o go s at (h .0) ∙ ap (λ x. run (go x) s (at + 1)) (sym (h .1))
+
+pub ask-ends : {A : Type 0} (o : Origin) (go : ℕ → Scan A) (s : List ℕ) (at : ℕ) (f : Fault) → (length s ≤ at) × (f ≡ faultAt EndsTooSoon o at) → run (ask o go) s at ≡ bad f
+ask-ends o go s at f h = run-short o go s at (h .0) ∙ ap bad (sym (h .1))
+
+-- an answer from what the scanner says
+module _ {A R : Type 0} (K : R → A → ℕ → Type 0) (m : Out A) where
+  pub answers : (v : R) (a : A) (end : ℕ) → m ≡ good a end → K v a end → Says K (Ok v) m
+  answers v a end is holds = record { agree = record { value = a; end = end; is = is; holds = holds } }
+
+  pub refuses : (r : Result R Fault) (f g : Fault) → r ≡ Err f → f ≡ g → m ≡ bad g → Says K r m
+  refuses r f g p q is = rw (p, q) (record { agree = is })
+
+-- one scanner and then another
+abbrev pub after : {A B : Type 0} → Out A → (A → ℕ → Out B) → Out B
+after (good a end) next = next a end
+after (bad f) next = bad f
+
+pub run-after : {A B : Type 0} (p : Scan A) (next : A → Scan B) (s : List ℕ) (at : ℕ) → run (andThen p next) s at ≡ after (run p s at) (λ a end. run (next a) s end)
+unfolding run andThen
+run-after (done x) next s at = refl
+run-after (refuse o rule) next s at = refl
+run-after {B = B} (ask o go) next s at =
+    elim (cases-bool (ltb at (length s))) [
+      | inl here ↦ rw here (run-after (go (getD s at 0)) next s (at + 1))
+      | inr past ↦ rw past
+    ]
+
+pub run-then : {A B : Type 0} (p : Scan A) (next : A → Scan B) (s : List ℕ) (at end : ℕ) (a : A) → run p s at ≡ good a end → run (andThen p next) s at ≡ run (next a) s end
+run-then p next s at end a is = run-after p next s at ∙ ap (λ m. after m (λ b e. run (next b) s e)) is
+
+pub run-fails : {A B : Type 0} (p : Scan A) (next : A → Scan B) (s : List ℕ) (at : ℕ) (f : Fault) → run p s at ≡ bad f → run (andThen p next) s at ≡ bad f
+run-fails p next s at f is = run-after p next s at ∙ ap (λ m. after m (λ b e. run (next b) s e)) is
+
+-- the first part refuses; it reads a value, and the rest goes on from there
+module _ {A B R Q : Type 0} (K : R → A → ℕ → Type 0) (L : Q → B → ℕ → Type 0) (p : Scan A) (next : A → Scan B) (s : List ℕ) (at : ℕ) where
+  pub failed : (r : Result Q Fault) (f x : Fault) → r ≡ Err x → x ≡ f → Says K (Err f) (run p s at) → Says L r (run (andThen p next) s at)
+  failed r f x e q says = refuses L _ r x f e q (run-fails p next s at f (says .agree))
+
+  pub passed : (v : R) (r : Result Q Fault) → Says K (Ok v) (run p s at) → ((a : A) (end : ℕ) → K v a end → Says L r (run (next a) s end)) → Says L r (run (andThen p next) s at)
+  passed v r says then′ =
+      let w = says .agree in
+      rw (run-then p next s at (w .end) (w .value) (w .is)) (then′ (w .value) (w .end) (w .holds))
+
+-- a byte that is tested
+module _ (o : Origin) (rule : FileRule) (test : ℕ → Bool) (s : List ℕ) (at : ℕ) where
+  pub test-ends : (f : Fault) → (length s ≤ at) × (f ≡ faultAt EndsTooSoon o at) → Says (Next at) (Err f) (run (tested o rule test) s at)
+  unfolding tested
+  test-ends f h = record { agree = ask-ends o _ s at f h }
+
+  pub test-passes : (b : ℕ) → (at < length s) × (b ≡ getD s at 0) → test b ≡ true → Says (Next at) (Ok b) (run (tested o rule test) s at)
+  unfolding tested
+  test-passes b h yes′ =
+      answers (Next at) _ b b (at + 1) (ask-goes o _ s at b h ∙ rw yes′ (run-done b s (at + 1))) (refl, refl)
+
+  pub test-fails : (b : ℕ) (f : Fault) → (at < length s) × (b ≡ getD s at 0) → test b ≡ false → f ≡ faultAt (Breaks rule) o at → Says (Next at) (Err f) (run (tested o rule test) s at)
+  unfolding tested
+  test-fails b f h no′ fault =
+      refuses (Next at) _ (Err f) f (faultAt (Breaks rule) o at) refl fault (ask-goes o _ s at b h ∙ rw no′ (run-refuse o rule s at))
