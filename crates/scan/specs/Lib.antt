@@ -1,3 +1,4 @@
 pub mod Faults
 pub mod Scan
 pub mod Says
+pub mod Stands
