@@ -2,3 +2,4 @@ pub mod Faults
 pub mod Scan
 pub mod Says
 pub mod Stands
+pub mod Fronts
