@@ -41,8 +41,8 @@ both-read {A = A} {B = B} p next s at b end is = go (run p s at) refl (sym (run-
 pub codec-done : {A : Type 0} (x : A) → Codec (done x) (λ _. []) (λ a. a ≡ x)
 codec-done x = record {
   sound = λ s bytes at a end is.
-    let e : good x at ≡ good a end = sym (run-done x s at) ∙ is in
-    record { holds = cc; stands = stands-none s at; ends = (let q : end ≡ at = cc in q ∙ sym (add-zero at)) };
+      let e : good x at ≡ good a end = sym (run-done x s at) ∙ is in
+      record { holds = cc; stands = stands-none s at; ends = (let q : end ≡ at = cc in q ∙ sym (add-zero at)) };
   complete = λ s at a is stands. run-done x s at ∙ rw (is, add-zero at);
 }
 
@@ -50,22 +50,22 @@ codec-done x = record {
 pub codec-then : {A B : Type 0} (p : Scan A) (next : A → Scan B) (encA : A → List ℕ) (P : A → Type 0) (encB : A → B → List ℕ) (Q : A → B → Type 0) (first : B → A) → Codec p encA P → ((a : A) → P a → Codec (next a) (encB a) (Q a)) → ((a : A) (b : B) → P a → Q a b → first b ≡ a) → Codec (andThen p next) (λ b. encA (first b) ++ encB (first b) b) (λ b. P (first b) × Q (first b) b)
 codec-then {A = A} {B = B} p next encA P encB Q first one two back = record {
   sound = λ s bytes at b end is.
-    let r = both-read p next s at b end is in
-    let a = r .0 in
-    let m = r .1 in
-    let x = one .sound s bytes at a m (r .2) in
-    let y = two a (x .holds) .sound s bytes m b end (r .3) in
-    let e : first b ≡ a = back a b (x .holds) (y .holds) in
-    record {
-      holds = rw e (x .holds, y .holds);
-      stands = rw e (stands-append s at (encA a) (encB a b) (x .stands) (subst (λ k. Stands s k (encB a b)) (x .ends) (y .stands)));
-      ends = rw e (simp length-append (omega (arith, x .ends, y .ends)));
-    };
+      let r = both-read p next s at b end is in
+      let a = r .0 in
+      let m = r .1 in
+      let x = one .sound s bytes at a m (r .2) in
+      let y = two a (x .holds) .sound s bytes m b end (r .3) in
+      let e : first b ≡ a = back a b (x .holds) (y .holds) in
+      record {
+        holds = rw e (x .holds, y .holds);
+        stands = rw e (stands-append s at (encA a) (encB a b) (x .stands) (subst (λ k. Stands s k (encB a b)) (x .ends) (y .stands)));
+        ends = rw e (simp length-append (omega (arith, x .ends, y .ends)));
+      };
   complete = λ s at b holds stands.
-    let parts = stands-split s at (encA (first b)) (encB (first b) b) stands in
-    let x = one .complete s at (first b) (holds .0) (parts .0) in
-    let y = two (first b) (holds .0) .complete s (at + length (encA (first b))) b (holds .1) (parts .1) in
-    run-then p next s at _ (first b) x ∙ y ∙ ap (good b) (simp length-append (omega arith));
+      let parts = stands-split s at (encA (first b)) (encB (first b) b) stands in
+      let x = one .complete s at (first b) (holds .0) (parts .0) in
+      let y = two (first b) (holds .0) .complete s (at + length (encA (first b))) b (holds .1) (parts .1) in
+      run-then p next s at _ (first b) x ∙ y ∙ ap (good b) (simp length-append (omega arith));
 }
 
 -- what was asked for was there
@@ -85,8 +85,8 @@ module _ (o : Origin) (rule : FileRule) (test : ℕ → Bool) where
   judged s at b x end is =
       elim (cases-bool (test x)) [
         | inl yes′ ↦
-          let e : good x (at + 1) ≡ good b end = sym (run-done x s (at + 1)) ∙ (rw yes′ at is) in
-          (yes′, cc, cc)
+            let e : good x (at + 1) ≡ good b end = sym (run-done x s (at + 1)) ∙ (rw yes′ at is) in
+            (yes′, cc, cc)
         | inr no′ ↦ absurd (let e = sym (run-refuse o rule s at) ∙ (rw no′ at is) in let z : _≡_ {A = ℕ} 0 1 = cc in omega arith)
       ]
 
@@ -160,10 +160,14 @@ module _ {A : Type 0} (one : List A → Scan A) (enc : A → List ℕ) (P : List
       let a = r .0 in
       let x = each before .sound s bytes at a (r .1) (r .2) in
       let more = collect-sound n (before ++ a ∷ []) s bytes (r .1) xs end (r .3) in
-      let new = more .0 in
-      (a ∷ new, more .1 ∙ append-assoc before (a ∷ []) new, ap suc (more .2), (x .holds, more .3),
-      stands-append s at (enc a) (joined enc new) (x .stands) (subst (λ k. Stands s k (joined enc new)) (x .ends) (more .4)),
-      simp length-append (omega (arith, x .ends, more .5)))
+      let new = more .0 in (
+        a ∷ new,
+        more .1 ∙ append-assoc before (a ∷ []) new,
+        ap suc (more .2),
+        (x .holds, more .3),
+        stands-append s at (enc a) (joined enc new) (x .stands) (subst (λ k. Stands s k (joined enc new)) (x .ends) (more .4)),
+        simp length-append (omega (arith, x .ends, more .5)),
+      )
 
   collect-complete : (n : ℕ) (before new : List A) (s : List ℕ) (at : ℕ) → length new ≡ n → Each P before new → Stands s at (joined enc new) → run (collect n one before) s at ≡ good (before ++ new) (at + length (joined enc new))
   unfolding collect
@@ -180,7 +184,7 @@ module _ {A : Type 0} (one : List A → Scan A) (enc : A → List ℕ) (P : List
   pub codec-collect : (n : ℕ) → Codec (collect n one []) (joined enc) (λ xs. (length xs ≡ n) × Each P [] xs)
   codec-collect n = record {
     sound = λ s bytes at xs end is.
-      let r = collect-sound n [] s bytes at xs end is in
-      record { holds = rw (r .1) (r .2, r .3); stands = rw (r .1) (r .4); ends = rw (r .1) (r .5) };
+        let r = collect-sound n [] s bytes at xs end is in
+        record { holds = rw (r .1) (r .2, r .3); stands = rw (r .1) (r .4); ends = rw (r .1) (r .5) };
     complete = λ s at xs h stands. collect-complete n [] xs s at (h .0) (h .1) stands;
   }

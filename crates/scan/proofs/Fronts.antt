@@ -21,9 +21,10 @@ use Rattle.scan.proofs.Codecs.{asked-read}
 
 -- a byte of the shared front
 front-byte : (n : ℕ) (s t : List ℕ) → SameFront n s t → (k : ℕ) → k < n → (k < length t) × (getD s k 0 ≡ getD t k 0)
-front-byte n s t h k under =
-    (omega (arith, h .there),
-    sym (getD-take n s k 0 under) ∙ ap (λ xs. getD xs k 0) (h .same) ∙ getD-take n t k 0 under)
+front-byte n s t h k under = (
+  omega (arith, h .there),
+  sym (getD-take n s k 0 under) ∙ ap (λ xs. getD xs k 0) (h .same) ∙ getD-take n t k 0 under,
+)
 
 -- the byte of a refusal
 abbrev byteOf : Fault → ℕ
@@ -92,9 +93,9 @@ broken-alike (ask q go) s t at rule o i is same =
     elim (asked-bad q go s at _ is) [
       | inl g ↦ let e = g .1 in absurd (let z : _≡_ {A = ℕ} 0 1 = cc in omega arith)
       | inr g ↦
-        let far = bad-forward (go (getD s at 0)) s (at + 1) (Breaks rule) o i (g .1) in
-        let b = front-byte (i + 1) s t same at (omega (arith, far)) in
-        run-ask q go t at (b .0) ∙ rw (← (b .1)) (broken-alike (go (getD s at 0)) s t (at + 1) rule o i (g .1) same)
+          let far = bad-forward (go (getD s at 0)) s (at + 1) (Breaks rule) o i (g .1) in
+          let b = front-byte (i + 1) s t same at (omega (arith, far)) in
+          run-ask q go t at (b .0) ∙ rw (← (b .1)) (broken-alike (go (getD s at 0)) s t (at + 1) rule o i (g .1) same)
     ]
 
 -- a file that ends too soon does so at its length, and so does each of its beginnings
@@ -118,8 +119,8 @@ short-before (ask q go) s at o i n h k is =
       | inl under ↦ elim (asked-bad q go s at _ is) [
         | inl g ↦ absurd (let z : ⊥ = omega (arith, g .0) in z)
         | inr g ↦
-          let rest = short-before (go (getD s at 0)) s (at + 1) o i n (omega arith) k (g .1) in
-          (rest .0, run-ask q go (take n s) at (omega arith) ∙ rw (getD-take n s at 0 under) (rest .1))
+            let rest = short-before (go (getD s at 0)) s (at + 1) o i n (omega arith) k (g .1) in
+            (rest .0, run-ask q go (take n s) at (omega arith) ∙ rw (getD-take n s at 0 under) (rest .1))
       ]
       | inr past ↦ let e : at ≡ n = omega arith in (q, run-short q go (take n s) at (omega arith) ∙ ap (λ m. bad (faultAt EndsTooSoon q m)) e)
     ]

@@ -38,8 +38,8 @@ pub stands-head : (s : List ℕ) (at x : ℕ) (xs : List ℕ) → Stands s at (x
 stands-head s at x xs h =
     elim (cases-lt at (length s)) [
       | inl under ↦
-        let e : getD s at 0 ∷ drop (at + 1) s ≡ x ∷ (xs ++ drop (at + length (x ∷ xs)) s) = sym (drop-more s at 0 under) ∙ h .is in
-        (under, cc, stands-front s (at + 1) xs (drop (at + length (x ∷ xs)) s) (cc))
+          let e : getD s at 0 ∷ drop (at + 1) s ≡ x ∷ (xs ++ drop (at + length (x ∷ xs)) s) = sym (drop-more s at 0 under) ∙ h .is in
+          (under, cc, stands-front s (at + 1) xs (drop (at + length (x ∷ xs)) s) (cc))
       | inr past ↦ absurd (let z : [] ≡ x ∷ (xs ++ drop (at + length (x ∷ xs)) s) = sym (drop-all at s past) ∙ h .is in let y : _≡_ {A = ℕ} 0 1 = cc in omega arith)
     ]
 

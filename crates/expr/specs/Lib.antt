@@ -1,0 +1,4 @@
+pub mod Codes
+pub mod Expr
+pub mod Text
+pub mod Scan

@@ -1,0 +1,38 @@
+// Guards and terms in prefix byte code.
+ghost use mathlib.Core.Path.{_≡_};
+ghost use Rattle.expr.specs.Codes.{guardCode, termCode};
+
+pub mod code;
+
+use code::GuardCode;
+use code::TermCode;
+
+pub fn guard_code(b: u8) -> GuardCode
+    ensures { λ r. ⌜ r ≡ guardCode b ⌝ }
+{
+    match b {
+        0x01 => GuardCode::Truth(true),
+        0x02 => GuardCode::Truth(false),
+        0x03 => GuardCode::Not,
+        0x04 => GuardCode::Join(code::Joint::And),
+        0x05 => GuardCode::Join(code::Joint::Or),
+        0x06 => GuardCode::Test(code::Order::Eq),
+        0x07 => GuardCode::Test(code::Order::Ne),
+        0x08 => GuardCode::Test(code::Order::Lt),
+        0x09 => GuardCode::Test(code::Order::Le),
+        _ => GuardCode::Unknown,
+    }
+}
+
+pub fn term_code(b: u8) -> TermCode
+    ensures { λ r. ⌜ r ≡ termCode b ⌝ }
+{
+    match b {
+        0x10 => TermCode::Literal,
+        0x11 => TermCode::Variable,
+        0x12 => TermCode::Sum(code::Sign::Plus),
+        0x13 => TermCode::Sum(code::Sign::Minus),
+        0x14 => TermCode::Case,
+        _ => TermCode::Unknown,
+    }
+}
