@@ -46,6 +46,9 @@ module _ {A R : Type 0} (K : R → A → ℕ → Type 0) (m : Out A) where
   pub answers : (v : R) (a : A) (end : ℕ) → m ≡ good a end → K v a end → Says K (Ok v) m
   answers v a end is holds = record { agree = record { value = a; end = end; is = is; holds = holds } }
 
+  pub says-by : (r : Result R Fault) (l : Out A) → m ≡ l → Says K r l → Says K r m
+  says-by r l e says = rw e says
+
   pub refuses : (r : Result R Fault) (f g : Fault) → r ≡ Err f → f ≡ g → m ≡ bad g → Says K r m
   refuses r f g p q is = rw (p, q) (record { agree = is })
 
