@@ -1,2 +1,4 @@
 pub mod Scans
 pub mod Lengths
+pub mod Parses
+pub mod Sizes

@@ -3,3 +3,4 @@ pub mod Expr
 pub mod Text
 pub mod Scan
 pub mod Ends
+pub mod Sized
