@@ -1,0 +1,4 @@
+pub mod System
+pub mod Formed
+pub mod Encode
+pub mod Scan
