@@ -1,21 +1,21 @@
 -- A scanner that reads exactly the encodings of the values that P holds of.
 use Prim.Native.Nat.{ℕ, zero, suc, _+_, _-_, _*_, _/_, _%_, _<_, _≤_}
 use mathlib.Core.Path.{_≡_, refl, sym, ap, subst, _∙_}
-use mathlib.Core.Bool.{Bool, true, false, cond}
+use mathlib.Core.Bool.{Bool, true, false, cond, _&&_}
 use mathlib.Core.List.{List, [], _∷_, _++_}
 use mathlib.Core.Logic.{_⊎_, inl, inr}
 use native.Mathlib.Omega.{arith}
 use native.Mathlib.Nat.{add-zero}
 use lib.Dec.{ltb, leb}
 use lib.ListN.{length, getD, length-append}
-use Rattle.std.proofs.shelf.Tests.{cases-bool, cases-lt}
+use Rattle.std.proofs.shelf.Tests.{cases-bool, cases-lt, ltb-true, leb-true, lt-ltb, le-leb, and-parts, and-from}
 use Rattle.std.proofs.shelf.Lists.{append-assoc, append-nil}
 use Rattle.std.specs.Joined.{joined}
 use Rattle.scan.specs.declared.refusal.Origin.{Origin}
 use Rattle.scan.specs.declared.refusal.Fault.{Fault}
 use Rattle.scan.specs.declared.refusal.FileRule.{FileRule}
 use Rattle.scan.specs.Faults.{faultAt}
-use Rattle.scan.specs.Scan.{Scan, done, refuse, ask, andThen, Out, good, bad, run, tested, pair, collect}
+use Rattle.scan.specs.Scan.{Scan, done, refuse, ask, andThen, Out, good, bad, run, tested, counted, numbered, zeroOrOne, pair, collect}
 use Rattle.scan.specs.Stands.{Stands, Bytes, twoBytes, Each}
 use Rattle.scan.proofs.Runs.{after, run-after, run-then, run-done, run-ask, run-short, run-refuse}
 use Rattle.scan.proofs.Standing.{stands-none, stands-append, stands-split, stands-one, stands-head}
@@ -188,3 +188,76 @@ module _ {A : Type 0} (one : List A → Scan A) (enc : A → List ℕ) (P : List
         record { holds = rw (r .1) (r .2, r .3); stands = rw (r .1) (r .4); ends = rw (r .1) (r .5) };
     complete = λ s at xs h stands. collect-complete n [] xs s at (h .0) (h .1) stands;
   }
+
+-- the same scanner by other words: an equivalent predicate, and an encoding that is equal where it holds
+pub codec-as : {A : Type 0} {p : Scan A} {enc : A → List ℕ} {P : A → Type 0} (new : A → List ℕ) (Q : A → Type 0) → Codec p enc P → ((a : A) → P a → Q a) → ((a : A) → Q a → P a) → ((a : A) → Q a → enc a ≡ new a) → Codec p new Q
+codec-as {p = p} {enc = enc} new Q one to from alike = record {
+  sound = λ s bytes at a end is.
+      let r = one .sound s bytes at a end is in
+      let e : enc a ≡ new a = alike a (to a (r .holds)) in
+      record { holds = to a (r .holds); stands = subst (Stands s at) e (r .stands); ends = r .ends ∙ ap (λ xs. at + length xs) e };
+  complete = λ s at a holds stands.
+      let e : enc a ≡ new a = alike a holds in
+      one .complete s at a (from a holds) (subst (Stands s at) (sym e) stands) ∙ ap (λ xs. good a (at + length xs)) e;
+}
+
+pub codec-same : {A : Type 0} {p : Scan A} {enc : A → List ℕ} {P : A → Type 0} (Q : A → Type 0) → Codec p enc P → ((a : A) → P a → Q a) → ((a : A) → Q a → P a) → Codec p enc Q
+codec-same {enc = enc} Q one to from = codec-as enc Q one to from (λ a h. refl)
+
+-- what was read by another name; back : the name that was read
+pub codec-map : {A B : Type 0} {p : Scan A} {enc : A → List ℕ} {P : A → Type 0} (name : A → B) (back : B → A) → Codec p enc P → ((a : A) → P a → back (name a) ≡ a) → Codec (andThen p (λ a. done (name a))) (λ b. enc (back b)) (λ b. P (back b) × (b ≡ name (back b)))
+codec-map {p = p} {enc = enc} {P = P} name back one same =
+    codec-as (λ b. enc (back b)) (λ b. P (back b) × (b ≡ name (back b)))
+    (codec-then p (λ a. done (name a)) enc P (λ a b. []) (λ a b. b ≡ name a) back one (λ a h. codec-done (name a)) (λ a b h e. ap back e ∙ same a h))
+    (λ b h. h) (λ b h. h) (λ b h. append-nil (enc (back b)))
+
+-- a scanner behind a test, which else refuses
+pub codec-when : {A : Type 0} (t : Bool) (o : Origin) (rule : FileRule) {p : Scan A} {enc : A → List ℕ} {P : A → Type 0} → Codec p enc P → Codec (cond t p (refuse o rule)) enc (λ a. (t ≡ true) × P a)
+unfolding run
+codec-when true o rule {P = P} one = codec-same (λ a. (true ≡ true) × P a) one (λ a h. (refl, h)) (λ a h. h .1)
+codec-when false o rule one = record {
+  sound = λ s bytes at a end is. absurd (let z : _≡_ {A = ℕ} 0 1 = cc in omega arith);
+  complete = λ s at a holds stands. absurd (let e = holds .0 in let z : _≡_ {A = ℕ} 0 1 = cc in omega arith);
+}
+
+-- a byte, and then what goes by it; first : the byte of the whole
+pub codec-ask : {A : Type 0} (o : Origin) (go : ℕ → Scan A) (enc : ℕ → A → List ℕ) (P : ℕ → A → Type 0) (first : A → ℕ) → ((x : ℕ) → Codec (go x) (enc x) (P x)) → ((x : ℕ) (a : A) → P x a → first a ≡ x) → Codec (ask o go) (λ a. first a ∷ enc (first a) a) (λ a. P (first a) a)
+codec-ask o go enc P first each back = record {
+  sound = λ s bytes at a end is.
+      let r = asked-read o go s at a end is in
+      let x = getD s at 0 in
+      let y = each x .sound s bytes (at + 1) a end (r .1) in
+      let e : first a ≡ x = back x a (y .holds) in
+      record {
+        holds = rw e (y .holds);
+        stands = rw e (stands-append s at (x ∷ []) (enc x a) (stands-one s at (r .0)) (y .stands));
+        ends = rw e (omega (arith, y .ends));
+      };
+  complete = λ s at a holds stands.
+      let h = stands-head s at (first a) (enc (first a) a) stands in
+      let y = each (first a) .complete s (at + 1) a holds (h .2) in
+      run-ask o go s at (h .0) ∙ ap (λ x. run (go x) s (at + 1)) (h .1) ∙ y ∙ ap (good a) (omega arith);
+}
+
+-- counts, numbers, and zero or one
+pub codec-counted : (o : Origin) (low high : ℕ) → Codec (counted o low high) (λ b. b ∷ []) (λ b. (low ≤ b) × (b ≤ high))
+unfolding counted
+codec-counted o low high =
+    codec-same (λ b. (low ≤ b) × (b ≤ high)) (codec-tested o _ (λ b. leb low b && leb b high))
+    (λ b h. let r = and-parts (leb low b) (leb b high) h in (leb-true low b (r .0), leb-true b high (r .1)))
+    (λ b h. and-from (leb low b) (leb b high) (le-leb low b (h .0)) (le-leb b high (h .1)))
+
+pub codec-numbered : (o : Origin) (n : ℕ) → Codec (numbered o n) (λ b. b ∷ []) (λ b. b < n)
+unfolding numbered
+codec-numbered o n = codec-same (λ b. b < n) (codec-tested o _ (λ b. ltb b n)) (λ b h. ltb-true b n h) (λ b h. lt-ltb b n h)
+
+pub codec-zero-or-one : (o : Origin) → Codec (zeroOrOne o) (λ b. b ∷ []) (λ b. b < 2)
+unfolding zeroOrOne
+codec-zero-or-one o = codec-same (λ b. b < 2) (codec-tested o _ (λ b. ltb b 2)) (λ b h. ltb-true b 2 h) (λ b h. lt-ltb b 2 h)
+
+-- things one after another behind their count
+pub codec-listed : {A : Type 0} (o : Origin) (low high : ℕ) (one : List A → Scan A) (enc : A → List ℕ) (P : List A → A → Type 0) → ((before : List A) → Codec (one before) enc (P before)) → Codec (andThen (counted o low high) (λ n. collect n one [])) (λ xs. length xs ∷ joined enc xs) (λ xs. (low ≤ length xs) × (length xs ≤ high) × Each P [] xs)
+codec-listed o low high one enc P each =
+    codec-same (λ xs. (low ≤ length xs) × (length xs ≤ high) × Each P [] xs)
+    (codec-then (counted o low high) (λ n. collect n one []) _ _ (λ n. joined enc) (λ n xs. (length xs ≡ n) × Each P [] xs) length (codec-counted o low high) (λ n h. codec-collect one enc P each n) (λ n xs h e. e .0))
+    (λ xs h. (h .0 .0, h .0 .1, h .1 .1)) (λ xs h. ((h .0, h .1), (refl, h .2)))
