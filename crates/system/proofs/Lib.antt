@@ -1,1 +1,3 @@
 pub mod Eaches
+pub mod EventRows
+pub mod VariableRows
