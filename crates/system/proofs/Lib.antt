@@ -1,3 +1,4 @@
 pub mod Eaches
 pub mod EventRows
 pub mod VariableRows
+pub mod HeadRows
