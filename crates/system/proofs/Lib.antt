@@ -2,3 +2,5 @@ pub mod Eaches
 pub mod EventRows
 pub mod VariableRows
 pub mod HeadRows
+pub mod TransitionRows
+pub mod Assembled

@@ -1,0 +1,108 @@
+-- Automata and their rows: taken apart and put together again.
+use Prim.Native.Nat.{ℕ, zero, suc, max, _+_, _<_, _≤_}
+use mathlib.Core.Path.{_≡_, refl, sym, ap, subst, _∙_}
+use mathlib.Core.Bool.{Bool, true, false, cond}
+use mathlib.Core.List.{List, [], _∷_, _++_, map}
+use mathlib.Core.Logic.{_⊎_, inl, inr}
+use native.Mathlib.Omega.{arith}
+use lib.Dec.{eqb}
+use lib.ListN.{length, getD, length-append}
+use Rattle.std.proofs.shelf.Lists.{append-assoc, getD-at, map-append}
+use Rattle.std.proofs.shelf.Tests.{eq-eqb, ne-eqb, cases-eq, cond-true, cond-false}
+use Rattle.scan.specs.Stands.{Each}
+use Rattle.system.specs.System.{Transition, Automaton, Row, idle, rowsFrom}
+use Rattle.system.specs.Formed.{All}
+use Rattle.system.specs.Scan.{bound, owned, assembled}
+use Rattle.system.proofs.Eaches.{all-like, all-append, all-split, bound-append}
+
+-- an automaton without its transitions
+abbrev pub stripped : Automaton → Automaton
+stripped A = record { role = A .role; start = A .start; marks = A .marks; alphabet = A .alphabet; transitions = [] }
+
+abbrev rowOf : ℕ → Transition → Row
+rowOf k t = record { owner = k; transition = t }
+
+-- what rows have for an automaton
+owned-here : (k : ℕ) (r : Row) (rs : List Row) → r .owner ≡ k → owned k (r ∷ rs) ≡ r .transition ∷ owned k rs
+owned-here k r rs h = cond-true _ _ _ (eq-eqb (r .owner) k h)
+
+owned-other : (k : ℕ) (r : Row) (rs : List Row) → (r .owner ≡ k → ⊥) → owned k (r ∷ rs) ≡ owned k rs
+owned-other k r rs h = cond-false _ _ _ (ne-eqb (r .owner) k h)
+
+owned-none : (k : ℕ) (rs : List Row) → All (λ r. k < r .owner) rs → owned k rs ≡ []
+owned-none k [] h = refl
+owned-none k (r ∷ rs) h = let a : k < r .owner = h .0 in owned-other k r rs (λ e. omega arith) ∙ owned-none k rs (h .1)
+
+-- a row of an earlier automaton adds nothing
+assembled-skip : (k : ℕ) (As : List Automaton) (r : Row) (rs : List Row) → r .owner < k → assembled k As (r ∷ rs) ≡ assembled k As rs
+assembled-skip k [] r rs h = refl
+assembled-skip k (A ∷ As) r rs h =
+    let e : owned k (r ∷ rs) ≡ owned k rs = owned-other k r rs (λ e. omega arith) in
+    let f : assembled (suc k) As (r ∷ rs) ≡ assembled (suc k) As rs = assembled-skip (suc k) As r rs (omega arith) in
+    rw (e, f)
+
+-- 1. From rows to automata and back
+-- no owner is above a later one
+abbrev pub Settled : List Row → Type 0
+Settled [] = Unit {0}
+Settled (r ∷ rs) = All (λ q. r .owner ≤ q .owner) rs × Settled rs
+
+rows-none : (k : ℕ) (As : List Automaton) → rowsFrom k (assembled k As []) ≡ []
+rows-none k [] = refl
+rows-none k (A ∷ As) = rows-none (suc k) As
+
+-- the first row comes first
+rows-first : (k : ℕ) (As : List Automaton) (r : Row) (rs : List Row) → k ≤ r .owner → r .owner < k + length As → All (λ q. r .owner ≤ q .owner) rs → rowsFrom k (assembled k As (r ∷ rs)) ≡ r ∷ rowsFrom k (assembled k As rs)
+rows-first k [] r rs low high h = absurd (let z : ⊥ = omega arith in z)
+rows-first k (A ∷ As) r rs low high h = elim (cases-eq (r .owner) k) [
+  | inl here ↦
+      let e : owned k (r ∷ rs) ≡ r .transition ∷ owned k rs = owned-here k r rs here in
+      let f : assembled (suc k) As (r ∷ rs) ≡ assembled (suc k) As rs = assembled-skip (suc k) As r rs (omega arith) in
+      rw (e, f) (ap (λ j. record { owner = j; transition = r .transition } ∷ (map (rowOf k) (owned k rs) ++ rowsFrom (suc k) (assembled (suc k) As rs))) (sym here))
+  | inr later ↦
+      let above : k < r .owner = omega arith in
+      let e : owned k (r ∷ rs) ≡ owned k rs = owned-other k r rs later in
+      let f : owned k rs ≡ [] = owned-none k rs (all-like (λ q. r .owner ≤ q .owner) (λ q. k < q .owner) (λ q g. omega arith) rs h) in
+      rw (e, f) (rows-first (suc k) As r rs (omega arith) (omega arith) h)
+]
+
+pub rows-assembled : (As : List Automaton) (rs : List Row) → All (λ r. r .owner < length As) rs → Settled rs → rowsFrom 0 (assembled 0 As rs) ≡ rs
+rows-assembled As [] h g = rows-none 0 As
+rows-assembled As (r ∷ rs) h g =
+    let a : r .owner < length As = h .0 in
+    rows-first 0 As r rs (omega arith) (omega arith) (g .0) ∙ ap (λ qs. r ∷ qs) (rows-assembled As rs (h .1) (g .1))
+
+stripped-none : (A : Automaton) → A .transitions ≡ [] → stripped A ≡ A
+stripped-none A e = ap (λ ts. record { role = A .role; start = A .start; marks = A .marks; alphabet = A .alphabet; transitions = ts }) (sym e)
+
+pub stripped-assembled : (k : ℕ) (As : List Automaton) (rs : List Row) → All (λ A. A .transitions ≡ []) As → map stripped (assembled k As rs) ≡ As
+stripped-assembled k [] rs h = refl
+stripped-assembled k (A ∷ As) rs h =
+    let e = stripped-none A (h .0) in
+    let f = stripped-assembled (suc k) As rs (h .1) in
+    ap (λ B. B ∷ map stripped (assembled (suc k) As rs)) e ∙ ap (λ Bs. A ∷ Bs) f
+
+-- 2. From automata to rows and back
+rows-low : (j k : ℕ) (As : List Automaton) → j ≤ k → All (λ r. j ≤ r .owner) (rowsFrom k As)
+rows-low j k [] h = tt
+rows-low j k (A ∷ As) h = all-append (λ r. j ≤ r .owner) _ _ (own (A .transitions)) (rows-low j (suc k) As (omega arith))
+  where
+    own : (ts : List Transition) → All (λ r. j ≤ r .owner) (map (rowOf k) ts)
+    own [] = tt
+    own (t ∷ ts) = (h, own ts)
+
+pub rows-high : (k n : ℕ) (As : List Automaton) → k + length As ≤ n → All (λ r. r .owner < n) (rowsFrom k As)
+rows-high k n [] h = tt
+rows-high k n (A ∷ As) h = all-append (λ r. r .owner < n) _ _ (own (A .transitions)) (rows-high (suc k) n As (omega arith))
+  where
+    own : (ts : List Transition) → All (λ r. r .owner < n) (map (rowOf k) ts)
+    own [] = tt
+    own (t ∷ ts) = (omega arith, own ts)
+
+owned-own : (k : ℕ) (ts : List Transition) (rs : List Row) → owned k (map (rowOf k) ts ++ rs) ≡ ts ++ owned k rs
+owned-own k [] rs = refl
+owned-own k (t ∷ ts) rs = owned-here k (rowOf k t) (map (rowOf k) ts ++ rs) refl ∙ ap (λ us. t ∷ us) (owned-own k ts rs)
+
+assembled-after : (k : ℕ) (As : List Automaton) (ts : List Transition) (rs : List Row) → assembled (suc k) As (map (rowOf k) ts ++ rs) ≡ assembled (suc k) As rs
+assembled-after k As [] rs = refl
+assembled-after k As (t ∷ ts) rs = assembled-skip (suc k) As (rowOf k t) (map (rowOf k) ts ++ rs) (omega arith) ∙ assembled-after k As ts rs
