@@ -7,13 +7,13 @@ use mathlib.Core.Logic.{_⊎_, inl, inr}
 use native.Mathlib.Omega.{arith}
 use lib.Dec.{eqb}
 use lib.ListN.{length, getD, length-append}
-use Rattle.std.proofs.shelf.Lists.{append-assoc, getD-at, map-append}
+use Rattle.std.proofs.shelf.Lists.{append-nil, append-assoc, getD-at, map-append}
 use Rattle.std.proofs.shelf.Tests.{eq-eqb, ne-eqb, cases-eq, cond-true, cond-false}
 use Rattle.scan.specs.Stands.{Each}
 use Rattle.system.specs.System.{Transition, Automaton, Row, idle, rowsFrom}
 use Rattle.system.specs.Formed.{All}
 use Rattle.system.specs.Scan.{bound, owned, assembled}
-use Rattle.system.proofs.Eaches.{all-like, all-append, all-split, bound-append}
+use Rattle.system.proofs.Eaches.{all-like, all-both, all-append, all-split, bound-append}
 
 -- an automaton without its transitions
 abbrev pub stripped : Automaton → Automaton
@@ -106,3 +106,89 @@ owned-own k (t ∷ ts) rs = owned-here k (rowOf k t) (map (rowOf k) ts ++ rs) re
 assembled-after : (k : ℕ) (As : List Automaton) (ts : List Transition) (rs : List Row) → assembled (suc k) As (map (rowOf k) ts ++ rs) ≡ assembled (suc k) As rs
 assembled-after k As [] rs = refl
 assembled-after k As (t ∷ ts) rs = assembled-skip (suc k) As (rowOf k t) (map (rowOf k) ts ++ rs) (omega arith) ∙ assembled-after k As ts rs
+
+pub assembled-rows : (k : ℕ) (As : List Automaton) → assembled k (map stripped As) (rowsFrom k As) ≡ As
+assembled-rows k [] = refl
+assembled-rows k (A ∷ As) =
+    let rest = rowsFrom (suc k) As in
+    let own = map (rowOf k) (A .transitions) in
+    let e : owned k (own ++ rest) ≡ A .transitions = owned-own k (A .transitions) rest ∙ ap (λ ts. A .transitions ++ ts) (owned-none k rest (rows-low (suc k) (suc k) As (omega arith))) ∙ append-nil (A .transitions) in
+    let f : assembled (suc k) (map stripped As) (own ++ rest) ≡ As = assembled-after k (map stripped As) (A .transitions) rest ∙ assembled-rows (suc k) As in
+    ap (λ ts. record { role = A .role; start = A .start; marks = A .marks; alphabet = A .alphabet; transitions = ts } ∷ assembled (suc k) (map stripped As) (own ++ rest)) e
+    ∙ ap (λ Bs. A ∷ Bs) f
+
+settled-own : (k : ℕ) (ts : List Transition) (rs : List Row) → All (λ r. k ≤ r .owner) rs → Settled rs → All (λ r. k ≤ r .owner) (map (rowOf k) ts ++ rs) × Settled (map (rowOf k) ts ++ rs)
+settled-own k [] rs h g = (h, g)
+settled-own k (t ∷ ts) rs h g = let r = settled-own k ts rs h g in ((omega arith, r .0), (r .0, r .1))
+
+pub rows-settled : (k : ℕ) (As : List Automaton) → Settled (rowsFrom k As)
+rows-settled k [] = tt
+rows-settled k (A ∷ As) = settled-own k (A .transitions) (rowsFrom (suc k) As) (rows-low k (suc k) As (omega arith)) (rows-settled (suc k) As) .1
+
+-- 3. Owners that do not fall below those before them
+abbrev owners : List Row → List ℕ
+owners rs = map (λ r. r .owner) rs
+
+abbrev pub Unfallen : List Row → Row → Type 0
+Unfallen before r = bound (owners before) ≤ suc (r .owner)
+
+bound-more : (before : List Row) (r : Row) → bound (owners (before ++ r ∷ [])) ≡ max (bound (owners before)) (suc (r .owner))
+bound-more before r =
+    let e : owners (before ++ r ∷ []) ≡ owners before ++ owners (r ∷ []) = map-append (λ q. q .owner) before (r ∷ []) in
+    let f = bound-append (owners before) (owners (r ∷ [])) in
+    ap bound e ∙ f ∙ ap (λ j. max (bound (owners before)) j) (omega arith)
+
+later-high : (j : ℕ) (before rs : List Row) → j < bound (owners before) → Each Unfallen before rs → All (λ q. j ≤ q .owner) rs
+later-high j before [] low h = tt
+later-high j before (r ∷ rs) low h =
+    let a : bound (owners before) ≤ suc (r .owner) = h .0 in
+    (omega arith, later-high j (before ++ r ∷ []) rs (omega (arith, bound-more before r)) (h .1))
+
+pub unfallen-settled : (before rs : List Row) → Each Unfallen before rs → Settled rs
+unfallen-settled before [] h = tt
+unfallen-settled before (r ∷ rs) h = (later-high (r .owner) (before ++ r ∷ []) rs (omega (arith, bound-more before r)) (h .1), unfallen-settled (before ++ r ∷ []) rs (h .1))
+
+pub settled-unfallen : (before rs : List Row) → All (Unfallen before) rs → Settled rs → Each Unfallen before rs
+settled-unfallen before [] h g = tt
+settled-unfallen before (r ∷ rs) h g =
+    (h .0, settled-unfallen (before ++ r ∷ []) rs (all-like (λ q. Unfallen before q × (r .owner ≤ q .owner)) (Unfallen (before ++ r ∷ [])) (λ q f. omega (arith, bound-more before r)) rs (all-both (Unfallen before) (λ q. r .owner ≤ q .owner) rs (h .1) (g .0))) (g .1))
+
+-- 4. What holds of each transition of each automaton
+module _ (P : Automaton → Transition → Type 0) where
+  abbrev pub Owned : List Automaton → Row → Type 0
+  Owned As r = P (getD As (r .owner) idle) (r .transition)
+
+  abbrev pub Whole : Automaton → Type 0
+  Whole A = All (P (stripped A)) (A .transitions)
+
+  rows-own : (k : ℕ) (Bs : List Automaton) (A : Automaton) → getD Bs k idle ≡ A → (ts : List Transition) → All (P A) ts → All (Owned Bs) (map (rowOf k) ts)
+  rows-own k Bs A e [] h = tt
+  rows-own k Bs A e (t ∷ ts) h = (subst (λ B. P B t) (sym e) (h .0), rows-own k Bs A e ts (h .1))
+
+  own-rows : (k : ℕ) (Bs : List Automaton) (A : Automaton) → getD Bs k idle ≡ A → (ts : List Transition) → All (Owned Bs) (map (rowOf k) ts) → All (P A) ts
+  own-rows k Bs A e [] h = tt
+  own-rows k Bs A e (t ∷ ts) h = (subst (λ B. P B t) e (h .0), own-rows k Bs A e ts (h .1))
+
+  rows-from : (k : ℕ) (front As : List Automaton) → length front ≡ k → All Whole As → All (Owned (front ++ map stripped As)) (rowsFrom k As)
+  rows-from k front [] long h = tt
+  rows-from k front (A ∷ As) long h =
+      let e : (front ++ stripped A ∷ []) ++ map stripped As ≡ front ++ stripped A ∷ map stripped As = append-assoc front (stripped A ∷ []) (map stripped As) in
+      let more = rows-from (suc k) (front ++ stripped A ∷ []) As (length-append front (stripped A ∷ []) ∙ omega arith) (h .1) in
+      all-append (Owned (front ++ stripped A ∷ map stripped As)) _ _
+      (rows-own k _ (stripped A) (getD-at front (stripped A) (map stripped As) idle k long) (A .transitions) (h .0))
+      (subst (λ Bs. All (Owned Bs) (rowsFrom (suc k) As)) e more)
+
+  from-rows : (k : ℕ) (front As : List Automaton) → length front ≡ k → All (Owned (front ++ map stripped As)) (rowsFrom k As) → All Whole As
+  from-rows k front [] long h = tt
+  from-rows k front (A ∷ As) long h =
+      let e : (front ++ stripped A ∷ []) ++ map stripped As ≡ front ++ stripped A ∷ map stripped As = append-assoc front (stripped A ∷ []) (map stripped As) in
+      let parts = all-split (Owned (front ++ stripped A ∷ map stripped As)) _ _ h in (
+        own-rows k _ (stripped A) (getD-at front (stripped A) (map stripped As) idle k long) (A .transitions) (parts .0),
+        from-rows (suc k) (front ++ stripped A ∷ []) As (length-append front (stripped A ∷ []) ∙ omega arith) (subst (λ Bs. All (Owned Bs) (rowsFrom (suc k) As)) (sym e) (parts .1)),
+      )
+
+  pub rows-hold : (As : List Automaton) → All Whole As → All (Owned (map stripped As)) (rowsFrom 0 As)
+  rows-hold As h = rows-from 0 [] As refl h
+
+  pub hold-rows : (As : List Automaton) → All (Owned (map stripped As)) (rowsFrom 0 As) → All Whole As
+  hold-rows As h = from-rows 0 [] As refl h
