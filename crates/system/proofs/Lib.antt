@@ -4,3 +4,4 @@ pub mod VariableRows
 pub mod HeadRows
 pub mod TransitionRows
 pub mod Assembled
+pub mod Files

@@ -1,0 +1,135 @@
+-- The scanner of files reads exactly the encodings of well-formed systems.
+use Prim.Native.Nat.{ℕ, zero, suc, _+_, _<_, _≤_}
+use mathlib.Core.Path.{_≡_, refl, sym, ap, subst, _∙_}
+use mathlib.Core.Bool.{Bool, true, false, cond}
+use mathlib.Core.List.{List, [], _∷_, _++_, map}
+use mathlib.Core.Logic.{_⊎_, inl, inr}
+use native.Mathlib.Omega.{arith}
+use lib.Dec.{ltb}
+use lib.ListN.{length, drop, getD}
+use Rattle.std.proofs.shelf.Lists.{append-nil, drop-all, length-map}
+use Rattle.std.proofs.shelf.Tests.{cases-bool, le-ltb, ltb-false, cond-true, cond-false}
+use Rattle.std.specs.Joined.{joined}
+use Rattle.scan.specs.declared.refusal.Section.the-variants.{Transitions}
+use Rattle.scan.specs.declared.refusal.FileFault.the-variants.{BytesFollow}
+use Rattle.scan.specs.Faults.{faultAt}
+use Rattle.scan.specs.Scan.{Scan, done, andThen, Out, good, bad, run}
+use Rattle.scan.specs.Stands.{Stands, Bytes, Each}
+use Rattle.scan.proofs.Codecs.{Codec, codec-as, codec-then, codec-done}
+use Rattle.scan.proofs.Standing.{stands-front}
+use Rattle.system.specs.System.{Transition, Automaton, System, Row, idle, rowsFrom, rows}
+use Rattle.system.specs.Formed.{All, VariableFormed, HeadFormed, TransitionFormed, AutomatonFormed, WellFormed}
+use Rattle.system.specs.Encode.{headBytes, eventsBytes, variablesBytes, automataBytes, rowsBytes, encode}
+use Rattle.system.specs.Scan.{origin, events, variables, heads, transitions, assembled, file, nothingFollows, answer}
+use Rattle.system.proofs.Eaches.{all-like, all-map, map-all, each-like, each-both, each-all, all-each}
+use Rattle.system.proofs.EventRows.{codec-events}
+use Rattle.system.proofs.VariableRows.{codec-variables}
+use Rattle.system.proofs.HeadRows.{codec-heads}
+use Rattle.system.proofs.TransitionRows.{Follows, codec-transitions}
+use Rattle.system.proofs.Assembled.{stripped, Settled, Unfallen, Owned, Whole, rows-assembled, stripped-assembled, rows-high, assembled-rows, rows-settled, unfallen-settled, settled-unfallen, rows-hold, hold-rows}
+
+-- transitions do not matter to the head of an automaton
+joined-stripped : (As : List Automaton) → joined headBytes (map stripped As) ≡ joined headBytes As
+joined-stripped [] = refl
+joined-stripped (A ∷ As) = ap (λ xs. headBytes A ++ xs) (joined-stripped As)
+
+pub automata-stripped : (As : List Automaton) → automataBytes (map stripped As) ≡ automataBytes As
+automata-stripped As = ap (λ n. n ∷ joined headBytes (map stripped As)) (length-map As stripped) ∙ ap (λ xs. length As ∷ xs) (joined-stripped As)
+
+module _ (n m : ℕ) where
+  bare-head : (A : Automaton) → HeadFormed n A → HeadFormed n (stripped A)
+  bare-head A h = record { some-location = h .some-location; locations = h .locations; start = h .start; some-event = h .some-event; few-events = h .few-events; known = h .known; rising = h .rising }
+
+  head-bare : (A : Automaton) → HeadFormed n (stripped A) → HeadFormed n A
+  head-bare A h = record { some-location = h .some-location; locations = h .locations; start = h .start; some-event = h .some-event; few-events = h .few-events; known = h .known; rising = h .rising }
+
+  bare-transition : (A : Automaton) (t : Transition) → TransitionFormed n m A t → TransitionFormed n m (stripped A) t
+  bare-transition A t h = record { from = h .from; event = h .event; in-alphabet = h .in-alphabet; to = h .to; guard = h .guard; few-updates = h .few-updates; updates = h .updates; rising = h .rising }
+
+  transition-bare : (A : Automaton) (t : Transition) → TransitionFormed n m (stripped A) t → TransitionFormed n m A t
+  transition-bare A t h = record { from = h .from; event = h .event; in-alphabet = h .in-alphabet; to = h .to; guard = h .guard; few-updates = h .few-updates; updates = h .updates; rising = h .rising }
+
+  -- automata are well formed where their heads and their rows are
+  abbrev Bare : Automaton → Type 0
+  Bare A = HeadFormed n A × (A .transitions ≡ [])
+
+  bare-automata : (As : List Automaton) → All (AutomatonFormed n m) As → All Bare (map stripped As)
+  bare-automata As h = all-map stripped Bare As (all-like (AutomatonFormed n m) (λ A. Bare (stripped A)) (λ A g. (bare-head A (g .head), refl)) As h)
+
+  whole-automata : (As : List Automaton) → All (AutomatonFormed n m) As → All (Whole (TransitionFormed n m)) As
+  whole-automata As h =
+      all-like (AutomatonFormed n m) (Whole (TransitionFormed n m)) (λ A g. all-like (TransitionFormed n m A) (TransitionFormed n m (stripped A)) (bare-transition A) (A .transitions) (g .transitions)) As h
+
+  automata-formed : (As : List Automaton) → All Bare (map stripped As) → All (Whole (TransitionFormed n m)) As → All (AutomatonFormed n m) As
+  automata-formed [] h g = tt
+  automata-formed (A ∷ As) h g = (
+    record {
+      head = head-bare A (h .0 .0);
+      transitions = all-like (TransitionFormed n m (stripped A)) (TransitionFormed n m A) (transition-bare A) (A .transitions) (g .0);
+    },
+    automata-formed As (h .1) (g .1),
+  )
+
+  -- rows one after another
+  follows-known : (As : List Automaton) (rs : List Row) → Each (Follows n m As) [] rs → All (λ r. r .owner < length As) rs
+  follows-known As rs h = each-all (λ r. r .owner < length As) [] rs (each-like (Follows n m As) (λ before r. r .owner < length As) (λ before r g. g .0) [] rs h)
+
+  follows-settled : (As : List Automaton) (rs : List Row) → Each (Follows n m As) [] rs → Settled rs
+  follows-settled As rs h = unfallen-settled [] rs (each-like (Follows n m As) Unfallen (λ before r g. g .1) [] rs h)
+
+  follows-owned : (As : List Automaton) (rs : List Row) → Each (Follows n m As) [] rs → All (Owned (TransitionFormed n m) As) rs
+  follows-owned As rs h = each-all (Owned (TransitionFormed n m) As) [] rs (each-like (Follows n m As) (λ before r. Owned (TransitionFormed n m) As r) (λ before r g. g .2) [] rs h)
+
+  rows-follow : (As : List Automaton) (rs : List Row) → All (λ r. r .owner < length As) rs → Settled rs → All (Owned (TransitionFormed n m) As) rs → Each (Follows n m As) [] rs
+  rows-follow As rs known settled owned =
+      let low : Each Unfallen [] rs = settled-unfallen [] rs (all-like (λ r. r .owner < length As) (Unfallen []) (λ r g. omega arith) rs known) settled in
+      let two = each-both Unfallen (λ before r. Owned (TransitionFormed n m) As r) [] rs low (all-each (Owned (TransitionFormed n m) As) [] rs owned) in
+      let three = each-both (λ before r. r .owner < length As) (λ before r. Unfallen before r × Owned (TransitionFormed n m) As r) [] rs (all-each (λ r. r .owner < length As) [] rs known) two in
+      each-like (λ before r. (r .owner < length As) × (Unfallen before r × Owned (TransitionFormed n m) As r)) (Follows n m As) (λ before r g. (g .0, g .1 .0, g .1 .1)) [] rs three
+
+  automata-follow : (As : List Automaton) → All (AutomatonFormed n m) As → Each (Follows n m (map stripped As)) [] (rowsFrom 0 As)
+  automata-follow As h =
+      rows-follow (map stripped As) (rowsFrom 0 As) (rows-high 0 (length (map stripped As)) As (omega (arith, length-map As stripped))) (rows-settled 0 As)
+      (rows-hold (TransitionFormed n m) As (whole-automata As h))
+
+-- a system of its parts
+again : (S : System) → S ≡ record { kinds = S .kinds; variables = S .variables; automata = assembled 0 (map stripped (S .automata)) (rows S) }
+again S = ap (λ As. record { kinds = S .kinds; variables = S .variables; automata = As }) (sym (assembled-rows 0 (S .automata)))
+
+pub codec-file : Codec file encode WellFormed
+unfolding file
+codec-file =
+    codec-as encode WellFormed
+    (codec-then events _ _ _ _ _ (λ S. S .kinds) codec-events (λ ks p.
+    codec-then variables _ _ _ _ _ (λ S. S .variables) codec-variables (λ vs p.
+    codec-then (heads (length ks)) _ _ _ _ _ (λ S. map stripped (S .automata)) (codec-heads (length ks)) (λ As p.
+    codec-then (transitions (length ks) (length vs) As) _ _ _ _ _ rows (codec-transitions (length ks) (length vs) As) (λ rs p. codec-done _)
+    (λ rs S p q. ap rows q ∙ rows-assembled As rs (follows-known (length ks) (length vs) As rs (p .1)) (follows-settled (length ks) (length vs) As rs (p .1))))
+    (λ As S p q. ap (λ T. map stripped (T .automata)) (q .1) ∙ stripped-assembled 0 As (rows S) (all-like (λ A. HeadFormed (length ks) A × (A .transitions ≡ [])) (λ A. A .transitions ≡ []) (λ A g. g .1) As (p .2))))
+    (λ vs S p q. ap (λ T. T .variables) (q .1 .1))) (λ ks S p q. ap (λ T. T .kinds) (q .1 .1 .1)))
+    (λ S h.
+      let n = length (S .kinds) in
+      let m = length (S .variables) in
+      let As = S .automata in
+      let long : length (map stripped As) ≡ length As = length-map As stripped in
+      let few = h .1 .1 .0 in
+      record {
+        some-event = h .0 .0;
+        events = h .0 .1;
+        few-variables = h .1 .0 .0;
+        variables = h .1 .0 .1;
+        some-automaton = omega (arith, few .0);
+        few-automata = omega (arith, few .1);
+        automata = automata-formed n m As (few .2) (hold-rows (TransitionFormed n m) As (follows-owned n m (map stripped As) (rows S) (h .1 .1 .1 .0 .1)));
+        few-transitions = h .1 .1 .1 .0 .0;
+      })
+    (λ S h.
+      let n = length (S .kinds) in
+      let m = length (S .variables) in
+      let As = S .automata in
+      let long : length (map stripped As) ≡ length As = length-map As stripped in
+      ((h .some-event, h .events), ((h .few-variables, h .variables), ((omega (arith, h .some-automaton), omega (arith, h .few-automata), bare-automata n m As (h .automata)),
+      ((h .few-transitions, automata-follow n m As (h .automata)), again S)))))
+    (λ S h.
+      ap (λ xs. eventsBytes (S .kinds) ++ (variablesBytes (S .variables) ++ (automataBytes (map stripped (S .automata)) ++ xs))) (append-nil (rowsBytes (rows S)))
+      ∙ ap (λ xs. eventsBytes (S .kinds) ++ (variablesBytes (S .variables) ++ (xs ++ rowsBytes (rows S)))) (automata-stripped (S .automata)))
