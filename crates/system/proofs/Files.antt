@@ -133,3 +133,41 @@ codec-file =
     (λ S h.
       ap (λ xs. eventsBytes (S .kinds) ++ (variablesBytes (S .variables) ++ (automataBytes (map stripped (S .automata)) ++ xs))) (append-nil (rowsBytes (rows S)))
       ∙ ap (λ xs. eventsBytes (S .kinds) ++ (variablesBytes (S .variables) ++ (xs ++ rowsBytes (rows S)))) (automata-stripped (S .automata)))
+
+-- a well-formed system is read from its encoding
+stands-whole : (s : List ℕ) → Stands s 0 s
+stands-whole s = stands-front s 0 s [] (sym (append-nil s))
+
+pub file-encoded : (S : System) → WellFormed S → run file (encode S) 0 ≡ good S (length (encode S))
+file-encoded S formed = codec-file .complete (encode S) 0 S formed (stands-whole (encode S)) ∙ ap (good S) (omega arith)
+
+pub one-system : (S T : System) → WellFormed S → WellFormed T → encode S ≡ encode T → S ≡ T
+one-system S T formed also same =
+    let a : run file (encode S) 0 ≡ good S (length (encode S)) = file-encoded S formed in
+    let b : run file (encode T) 0 ≡ good T (length (encode T)) = file-encoded T also in
+    let c : run file (encode S) 0 ≡ run file (encode T) 0 = ap (λ s. run file s 0) same in
+    cc
+
+-- what is read up to the end of the file
+read-whole : (s : List ℕ) (S : System) (end : ℕ) (m : Out System) → nothingFollows s m ≡ good S end → (m ≡ good S end) × (length s ≤ end)
+read-whole s S end (good T stop) is = elim (cases-bool (ltb stop (length s))) [
+  | inl more ↦ absurd (let e = sym (cond-true _ _ _ more) ∙ is in let z : _≡_ {A = ℕ} 0 1 = cc in omega arith)
+  | inr none ↦
+      let e : good T stop ≡ good S end = sym (cond-false _ _ _ none) ∙ is in
+      let q : stop ≡ end = cc in
+      (e, omega (arith, ltb-false stop (length s) none))
+]
+read-whole s S end (bad f) is = absurd (let z : _≡_ {A = ℕ} 0 1 = cc in omega arith)
+
+pub accepted-encodes : (s : List ℕ) → Bytes s → (S : System) (end : ℕ) → answer s ≡ good S end → WellFormed S × (encode S ≡ s)
+unfolding answer
+accepted-encodes s bytes S end is =
+    let w = read-whole s S end (run file s 0) is in
+    let r = codec-file .sound s bytes 0 S end (w .0) in
+    let past : length s ≤ 0 + length (encode S) = omega (arith, w .1, r .ends) in
+    let e : s ≡ encode S ++ drop (0 + length (encode S)) s = r .stands .is in
+    (r .holds, sym (e ∙ ap (λ xs. encode S ++ xs) (drop-all (0 + length (encode S)) s past) ∙ append-nil (encode S)))
+
+pub encodes-accepted : (S : System) → WellFormed S → answer (encode S) ≡ good S (length (encode S))
+unfolding answer
+encodes-accepted S formed = ap (nothingFollows (encode S)) (file-encoded S formed) ∙ cond-false _ _ _ (le-ltb (length (encode S)) (length (encode S)) (omega arith))
