@@ -1,11 +1,9 @@
 -- Automata and their rows: taken apart and put together again.
-use Prim.Native.Nat.{ℕ, zero, suc, max, _+_, _<_, _≤_}
+use Prim.Native.Nat.{ℕ, suc, max, _+_, _<_, _≤_}
 use mathlib.Core.Path.{_≡_, refl, sym, ap, subst, _∙_}
-use mathlib.Core.Bool.{Bool, true, false, cond}
 use mathlib.Core.List.{List, [], _∷_, _++_, map}
-use mathlib.Core.Logic.{_⊎_, inl, inr}
+use mathlib.Core.Logic.{inl, inr}
 use native.Mathlib.Omega.{arith}
-use lib.Dec.{eqb}
 use lib.ListN.{length, getD, length-append}
 use Rattle.std.proofs.shelf.Lists.{append-nil, append-assoc, getD-at, map-append}
 use Rattle.std.proofs.shelf.Tests.{eq-eqb, ne-eqb, cases-eq, cond-true, cond-false}

@@ -1,9 +1,8 @@
 -- What holds of each element of a list, and of those before it; the least number above a list.
-use Prim.Native.Nat.{ℕ, zero, suc, max, _+_, _<_, _≤_}
-use mathlib.Core.Path.{_≡_, refl, sym, ap, subst, _∙_}
+use Prim.Native.Nat.{ℕ, max, _<_, _≤_}
+use mathlib.Core.Path.{_≡_, sym, subst}
 use mathlib.Core.List.{List, [], _∷_, _++_, map}
 use native.Mathlib.Omega.{arith}
-use lib.ListN.{length}
 use Rattle.std.proofs.shelf.Lists.{map-append}
 use Rattle.scan.specs.Stands.{Each}
 use Rattle.system.specs.Formed.{All, Rising}
@@ -30,9 +29,9 @@ pub all-map : {A B : Type 0} (f : A → B) (P : B → Type 0) (xs : List A) → 
 all-map f P [] h = tt
 all-map f P (x ∷ xs) h = (h .0, all-map f P xs (h .1))
 
-pub map-all : {A B : Type 0} (f : A → B) (P : B → Type 0) (xs : List A) → All P (map f xs) → All (λ x. P (f x)) xs
-map-all f P [] h = tt
-map-all f P (x ∷ xs) h = (h .0, map-all f P xs (h .1))
+pub all-any : {A : Type 0} (xs : List A) → All (λ (x : A). Unit {0}) xs
+all-any [] = tt
+all-any (x ∷ xs) = (tt, all-any xs)
 
 -- each element and those before it
 pub each-like : {A : Type 0} (P Q : List A → A → Type 0) → ((before : List A) (x : A) → P before x → Q before x) → (before xs : List A) → Each P before xs → Each Q before xs

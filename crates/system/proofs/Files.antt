@@ -1,27 +1,23 @@
 -- The scanner of files reads exactly the encodings of well-formed systems.
-use Prim.Native.Nat.{ℕ, zero, suc, _+_, _<_, _≤_}
-use mathlib.Core.Path.{_≡_, refl, sym, ap, subst, _∙_}
-use mathlib.Core.Bool.{Bool, true, false, cond}
+use Prim.Native.Nat.{ℕ, _+_, _<_, _≤_}
+use mathlib.Core.Path.{_≡_, refl, sym, ap, _∙_}
 use mathlib.Core.List.{List, [], _∷_, _++_, map}
-use mathlib.Core.Logic.{_⊎_, inl, inr}
+use mathlib.Core.Logic.{inl, inr}
 use native.Mathlib.Omega.{arith}
 use lib.Dec.{ltb}
-use lib.ListN.{length, drop, getD}
+use lib.ListN.{length, drop}
 use Rattle.std.proofs.shelf.Lists.{append-nil, drop-all, length-map}
 use Rattle.std.proofs.shelf.Tests.{cases-bool, le-ltb, ltb-false, cond-true, cond-false}
 use Rattle.std.specs.Joined.{joined}
-use Rattle.scan.specs.declared.refusal.Section.the-variants.{Transitions}
-use Rattle.scan.specs.declared.refusal.FileFault.the-variants.{BytesFollow}
-use Rattle.scan.specs.Faults.{faultAt}
-use Rattle.scan.specs.Scan.{Scan, done, andThen, Out, good, bad, run}
+use Rattle.scan.specs.Scan.{Out, good, bad, run}
 use Rattle.scan.specs.Stands.{Stands, Bytes, Each}
 use Rattle.scan.proofs.Codecs.{Codec, codec-as, codec-then, codec-done}
 use Rattle.scan.proofs.Standing.{stands-front}
-use Rattle.system.specs.System.{Transition, Automaton, System, Row, idle, rowsFrom, rows}
-use Rattle.system.specs.Formed.{All, VariableFormed, HeadFormed, TransitionFormed, AutomatonFormed, WellFormed}
+use Rattle.system.specs.System.{Transition, Automaton, System, Row, rowsFrom, rows}
+use Rattle.system.specs.Formed.{All, HeadFormed, TransitionFormed, AutomatonFormed, WellFormed}
 use Rattle.system.specs.Encode.{headBytes, eventsBytes, variablesBytes, automataBytes, rowsBytes, encode}
-use Rattle.system.specs.Scan.{origin, events, variables, heads, transitions, assembled, file, nothingFollows, answer}
-use Rattle.system.proofs.Eaches.{all-like, all-map, map-all, each-like, each-both, each-all, all-each}
+use Rattle.system.specs.Scan.{events, variables, heads, transitions, assembled, file, nothingFollows, answer}
+use Rattle.system.proofs.Eaches.{all-like, all-map, each-like, each-both, each-all, all-each}
 use Rattle.system.proofs.EventRows.{codec-events}
 use Rattle.system.proofs.VariableRows.{codec-variables}
 use Rattle.system.proofs.HeadRows.{codec-heads}
@@ -108,31 +104,38 @@ codec-file =
     (λ As S p q. ap (λ T. map stripped (T .automata)) (q .1) ∙ stripped-assembled 0 As (rows S) (all-like (λ A. HeadFormed (length ks) A × (A .transitions ≡ [])) (λ A. A .transitions ≡ []) (λ A g. g .1) As (p .2))))
     (λ vs S p q. ap (λ T. T .variables) (q .1 .1))) (λ ks S p q. ap (λ T. T .kinds) (q .1 .1 .1)))
     (λ S h.
-      let n = length (S .kinds) in
-      let m = length (S .variables) in
-      let As = S .automata in
-      let long : length (map stripped As) ≡ length As = length-map As stripped in
-      let few = h .1 .1 .0 in
-      record {
-        some-event = h .0 .0;
-        events = h .0 .1;
-        few-variables = h .1 .0 .0;
-        variables = h .1 .0 .1;
-        some-automaton = omega (arith, few .0);
-        few-automata = omega (arith, few .1);
-        automata = automata-formed n m As (few .2) (hold-rows (TransitionFormed n m) As (follows-owned n m (map stripped As) (rows S) (h .1 .1 .1 .0 .1)));
-        few-transitions = h .1 .1 .1 .0 .0;
-      })
+    let n = length (S .kinds) in
+    let m = length (S .variables) in
+    let As = S .automata in
+    let long : length (map stripped As) ≡ length As = length-map As stripped in
+    let few = h .1 .1 .0 in
+    record {
+      some-event = h .0 .0;
+      events = h .0 .1;
+      few-variables = h .1 .0 .0;
+      variables = h .1 .0 .1;
+      some-automaton = omega (arith, few .0);
+      few-automata = omega (arith, few .1);
+      automata = automata-formed n m As (few .2) (hold-rows (TransitionFormed n m) As (follows-owned n m (map stripped As) (rows S) (h .1 .1 .1 .0 .1)));
+      few-transitions = h .1 .1 .1 .0 .0;
+    })
     (λ S h.
-      let n = length (S .kinds) in
-      let m = length (S .variables) in
-      let As = S .automata in
-      let long : length (map stripped As) ≡ length As = length-map As stripped in
-      ((h .some-event, h .events), ((h .few-variables, h .variables), ((omega (arith, h .some-automaton), omega (arith, h .few-automata), bare-automata n m As (h .automata)),
-      ((h .few-transitions, automata-follow n m As (h .automata)), again S)))))
+    let n = length (S .kinds) in
+    let m = length (S .variables) in
+    let As = S .automata in
+    let long : length (map stripped As) ≡ length As = length-map As stripped in (
+      (h .some-event, h .events),
+      (
+        (h .few-variables, h .variables),
+        (
+          (omega (arith, h .some-automaton), omega (arith, h .few-automata), bare-automata n m As (h .automata)),
+          ((h .few-transitions, automata-follow n m As (h .automata)), again S),
+        ),
+      ),
+    ))
     (λ S h.
-      ap (λ xs. eventsBytes (S .kinds) ++ (variablesBytes (S .variables) ++ (automataBytes (map stripped (S .automata)) ++ xs))) (append-nil (rowsBytes (rows S)))
-      ∙ ap (λ xs. eventsBytes (S .kinds) ++ (variablesBytes (S .variables) ++ (xs ++ rowsBytes (rows S)))) (automata-stripped (S .automata)))
+    ap (λ xs. eventsBytes (S .kinds) ++ (variablesBytes (S .variables) ++ (automataBytes (map stripped (S .automata)) ++ xs))) (append-nil (rowsBytes (rows S)))
+    ∙ ap (λ xs. eventsBytes (S .kinds) ++ (variablesBytes (S .variables) ++ (xs ++ rowsBytes (rows S)))) (automata-stripped (S .automata)))
 
 -- a well-formed system is read from its encoding
 stands-whole : (s : List ℕ) → Stands s 0 s

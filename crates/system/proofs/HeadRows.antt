@@ -1,7 +1,7 @@
 -- The scanner of the automata reads exactly 1 to 12 well-formed automata without transitions behind their count.
 use Prim.Native.Nat.{ℕ, _<_, _≤_}
-use mathlib.Core.Path.{_≡_, refl, sym, ap, _∙_}
-use mathlib.Core.Bool.{Bool, true, false, cond}
+use mathlib.Core.Path.{_≡_, refl, ap, _∙_}
+use mathlib.Core.Bool.{Bool, true, false}
 use mathlib.Core.List.{List, [], _∷_, _++_}
 use native.Mathlib.Omega.{arith}
 use lib.Dec.{ltb, leb}
@@ -13,7 +13,7 @@ use Rattle.std.specs.Joined.{joined}
 use Rattle.scan.specs.declared.refusal.Origin.{Origin}
 use Rattle.scan.specs.declared.refusal.Section.the-variants.{Automata}
 use Rattle.scan.specs.declared.refusal.FileRule.the-variants.{KnownNumber, RisingOrder}
-use Rattle.scan.specs.Scan.{Scan, done, refuse, andThen, counted, numbered, zeroOrOne, collect}
+use Rattle.scan.specs.Scan.{counted, numbered, zeroOrOne, collect}
 use Rattle.scan.specs.Stands.{Each}
 use Rattle.scan.proofs.Codecs.{Codec, codec-as, codec-same, codec-map, codec-then, codec-when, codec-ask, codec-done, codec-counted, codec-numbered, codec-zero-or-one, codec-collect, codec-listed}
 use Rattle.system.specs.System.{Role, Automaton}
@@ -21,7 +21,7 @@ use Rattle.system.specs.declared.kinds.Role.the-variants.{Plant, Specification
 use Rattle.system.specs.Formed.{All, Rising, HeadFormed}
 use Rattle.system.specs.Encode.{roleByte, markByte, markBytes, eventBytes, headBytes, automataBytes}
 use Rattle.system.specs.Scan.{origin, rowAfter, bound, roleOf, markOf, mark, rising, headRow, heads}
-use Rattle.system.proofs.Eaches.{each-like, each-both, each-all, all-each, bound-rising, rising-bound}
+use Rattle.system.proofs.Eaches.{all-any, each-like, each-both, each-all, all-each, bound-rising, rising-bound}
 
 role-byte : (b : ℕ) → b < 2 → roleByte (roleOf b) ≡ b
 role-byte b h = grind (arith, tells)
@@ -52,16 +52,12 @@ codec-rising o n floor =
 -- numbers that rise
 pub rising-known : (n : ℕ) (xs : List ℕ) → Each (λ before x. (x < n) × (bound before ≤ x)) [] xs → All (λ x. x < n) xs × Rising xs
 rising-known n xs h = (
-    each-all (λ x. x < n) [] xs (each-like _ _ (λ before x g. g .0) [] xs h),
-    bound-rising xs (each-like _ _ (λ before x g. g .1) [] xs h),
-  )
+  each-all (λ x. x < n) [] xs (each-like _ _ (λ before x g. g .0) [] xs h),
+  bound-rising xs (each-like _ _ (λ before x g. g .1) [] xs h),
+)
 
 pub known-rising : (n : ℕ) (xs : List ℕ) → All (λ x. x < n) xs → Rising xs → Each (λ before x. (x < n) × (bound before ≤ x)) [] xs
 known-rising n xs h g = each-both (λ before x. x < n) (λ before x. bound before ≤ x) [] xs (all-each (λ x. x < n) [] xs h) (rising-bound xs g)
-
-any : (ms : List Bool) → All (λ m. Unit {0}) ms
-any [] = tt
-any (m ∷ ms) = (tt, any ms)
 
 -- an automaton without transitions
 made : (A : Automaton) → A .transitions ≡ [] → A ≡ record { role = roleOf (roleByte (A .role)); start = A .start; marks = A .marks; alphabet = A .alphabet; transitions = [] }
@@ -89,22 +85,35 @@ module _ (n : ℕ) (o : Origin) where
       (λ x A p q. ap (λ B. B .alphabet) q)) (λ x A p q. q .0 .0)) (λ x A p q. ap (λ B. B .marks) (q .1 .1))) (λ x A p q. ap (λ B. B .start) (q .1 .1 .1)))
       (λ x A p q. q .1 .0 .0)) (λ x A p q. ap (λ B. roleByte (B .role)) (q .1 .1 .1 .1 .1) ∙ role-byte x p))
       (λ A h.
-        let r = rising-known n (A .alphabet) (h .1 .1 .1 .1 .1 .0 .1) in (
-          record {
-            some-location = h .1 .0 .0;
-            locations = h .1 .0 .1;
-            start = h .1 .1 .0;
-            some-event = h .1 .1 .1 .1 .0 .0;
-            few-events = h .1 .1 .1 .1 .0 .1;
-            known = r .0;
-            rising = r .1;
-          },
-          ap (λ B. B .transitions) (h .1 .1 .1 .1 .1 .1),
-        ))
+      let r = rising-known n (A .alphabet) (h .1 .1 .1 .1 .1 .0 .1) in (
+        record {
+          some-location = h .1 .0 .0;
+          locations = h .1 .0 .1;
+          start = h .1 .1 .0;
+          some-event = h .1 .1 .1 .1 .0 .0;
+          few-events = h .1 .1 .1 .1 .0 .1;
+          known = r .0;
+          rising = r .1;
+        },
+        ap (λ B. B .transitions) (h .1 .1 .1 .1 .1 .1),
+      ))
       (λ A h.
-        let f = h .0 in
-        (byte-role (A .role) .0, ((f .some-location, f .locations), (f .start, ((refl, all-each (λ m. Unit {0}) [] (A .marks) (any (A .marks))), ((f .some-event, f .few-events),
-        ((refl, known-rising n (A .alphabet) (f .known) (f .rising)), made A (h .1))))))))
+      let f = h .0 in (
+        byte-role (A .role) .0,
+        (
+          (f .some-location, f .locations),
+          (
+            f .start,
+            (
+              (refl, all-each (λ m. Unit {0}) [] (A .marks) (all-any (A .marks))),
+              (
+                (f .some-event, f .few-events),
+                ((refl, known-rising n (A .alphabet) (f .known) (f .rising)), made A (h .1)),
+              ),
+            ),
+          ),
+        ),
+      ))
       (λ A h. ap (λ xs. roleByte (A .role) ∷ (length (A .marks) ∷ (A .start ∷ (joined markBytes (A .marks) ++ (length (A .alphabet) ∷ xs))))) (append-nil (joined eventBytes (A .alphabet))))
 
 pub codec-heads : (n : ℕ) → Codec (heads n) automataBytes (λ As. (1 ≤ length As) × (length As ≤ 12) × All (λ A. HeadFormed n A × (A .transitions ≡ [])) As)

@@ -1,9 +1,9 @@
 -- The scanner of the transitions reads exactly at most 512 well-formed rows, by automaton, behind their count.
 use Prim.Native.Nat.{ℕ, suc, _<_, _≤_}
-use mathlib.Core.Path.{_≡_, refl, sym, ap, _∙_}
-use mathlib.Core.Bool.{Bool, true, false, cond, _||_}
+use mathlib.Core.Path.{_≡_, refl, ap}
+use mathlib.Core.Bool.{true}
 use mathlib.Core.List.{List, [], _∷_, _++_, map}
-use mathlib.Core.Logic.{_⊎_, inl, inr}
+use mathlib.Core.Logic.{inl, inr}
 use native.Mathlib.Omega.{arith}
 use lib.Dec.{ltb, leb, eqb}
 use lib.ListN.{length, getD}
@@ -13,14 +13,14 @@ use Rattle.std.specs.Joined.{joined}
 use Rattle.scan.specs.declared.refusal.Origin.{Origin}
 use Rattle.scan.specs.declared.refusal.Section.the-variants.{Transitions}
 use Rattle.scan.specs.declared.refusal.FileRule.the-variants.{CountLimits, KnownNumber, RisingOrder, InAlphabet}
-use Rattle.scan.specs.Scan.{Scan, done, refuse, andThen, counted, numbered, pair, collect}
-use Rattle.scan.specs.Stands.{Each, twoBytes}
+use Rattle.scan.specs.Scan.{numbered, pair}
+use Rattle.scan.specs.Stands.{Each}
 use Rattle.scan.proofs.Codecs.{Codec, codec-as, codec-same, codec-then, codec-when, codec-ask, codec-done, codec-numbered, codec-pair, codec-collect, codec-listed}
-use Rattle.expr.specs.Expr.{guard, term, Formed}
+use Rattle.expr.specs.Expr.{guard, term}
 use Rattle.expr.specs.Scan.{sized}
 use Rattle.expr.specs.Sized.{sizedBytes}
 use Rattle.expr.proofs.Sizes.{codec-sized}
-use Rattle.system.specs.System.{Update, Transition, Automaton, Row, idle}
+use Rattle.system.specs.System.{Update, Automaton, Row, idle}
 use Rattle.system.specs.Formed.{All, In, Rising, UpdateFormed, TransitionFormed}
 use Rattle.system.specs.Encode.{updateBytes, transitionBytes, rowBytes, rowsBytes}
 use Rattle.system.specs.Scan.{origin, rowAfter, bound, rising, isIn, owner, eventIn, update, updates, transition, transitionRow, fewRows, transitions}

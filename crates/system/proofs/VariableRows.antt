@@ -1,11 +1,10 @@
 -- The scanner of the variables reads exactly at most 12 well-formed variables behind their count.
-use Prim.Native.Nat.{ℕ, _+_, _-_, _^_, _<_, _≤_}
-use mathlib.Core.Path.{_≡_, refl, sym, ap, subst, _∙_}
-use mathlib.Core.Bool.{Bool, true, false, _&&_, cond}
-use mathlib.Core.List.{List, [], _∷_, _++_}
+use Prim.Native.Nat.{ℕ, _^_, _<_, _≤_}
+use mathlib.Core.Path.{_≡_, refl, sym, ap, subst}
+use mathlib.Core.Bool.{true}
+use mathlib.Core.List.{List, [], _++_}
 use native.Mathlib.Omega.{arith}
 use borrow.Author.Gap.{read-sfits}
-use lib.Dec.{T}
 use lib.IntN.{ℤ, pos, negsuc}
 use lib.ListN.{length}
 use lib.Signed.{leZ, _≤ℤ_, ≤ℤ-refl}
@@ -17,8 +16,7 @@ use Rattle.std.proofs.shelf.Tests.{and-parts, and-from}
 use Rattle.scan.specs.declared.refusal.Origin.{Origin}
 use Rattle.scan.specs.declared.refusal.Section.the-variants.{Variables}
 use Rattle.scan.specs.declared.refusal.FileRule.the-variants.{VariableValues}
-use Rattle.scan.specs.Scan.{Scan, done, andThen}
-use Rattle.scan.specs.Stands.{twoBytes, Each}
+use Rattle.scan.specs.Scan.{Scan, andThen}
 use Rattle.scan.proofs.Codecs.{Codec, codec-as, codec-same, codec-map, codec-then, codec-when, codec-done, codec-pair, codec-listed}
 use Rattle.expr.specs.Expr.{valueBytes}
 use Rattle.system.specs.System.{Variable}
