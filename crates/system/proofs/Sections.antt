@@ -1,20 +1,32 @@
 -- What the scanners of the sections say, from what they say of their parts.
-use Prim.Native.Nat.{ℕ, zero, suc, _+_, _-_, _<_, _≤_}
+use Prim.Native.Nat.{ℕ, zero, suc, _+_, _-_, _*_, _<_, _≤_}
 use mathlib.Core.Path.{_≡_, refl, sym, ap, subst, _∙_}
 use mathlib.Core.List.{List, [], _∷_, _++_}
 use native.Mathlib.Omega.{arith}
-use lib.ListN.{length}
+use lib.IntN.{ℤ}
+use lib.ListN.{length, getD}
+use mir.Syntax.{w16}
+use mir.Val.{toZ}
 use Rattle.std.specs.declared.result.Result.the-variants.{Ok, Err}
 use Rattle.scan.specs.declared.refusal.Origin.{Origin}
 use Rattle.scan.specs.declared.refusal.Section.{Section}
 use Rattle.scan.specs.declared.refusal.Section.the-variants.{Events}
 use Rattle.scan.specs.declared.refusal.Fault.{Fault}
-use Rattle.scan.specs.Scan.{Scan, done, Out, good, bad, run, counted, zeroOrOne, collect}
+use Rattle.scan.specs.Scan.{Scan, done, Out, good, bad, run, counted, zeroOrOne, pair, collect}
 use Rattle.scan.specs.Says.{Says, Next}
-use Rattle.scan.proofs.Runs.{run-done, byte-bad, byte-read}
+use Rattle.scan.proofs.Runs.{run-done, run-then, run-fails, ask-goes, answers, byte-bad, byte-read, then-bad, then-read}
 use Rattle.scan.proofs.Loops.{Going, going-none, going-more, going-bad, going-all}
 use Rattle.system.specs.System.{EventKind}
-use Rattle.system.specs.Scan.{origin, rowAfter, kindOf, eventRow, events}
+use Rattle.system.specs.Ranges.{ValueAt}
+use Rattle.system.specs.Scan.{origin, rowAfter, kindOf, eventRow, events, value}
+
+-- a value of two bytes
+pub value-read : (o : Origin) (s : List ℕ) (at h l : ℕ) (v : ℤ) → (at < length s) × (h ≡ getD s at 0) → (at + 1 < length s) × (l ≡ getD s (at + 1) 0) → v ≡ toZ w16 (h * 256 + l) → Says (ValueAt at) (Ok v) (run (value o) s at)
+unfolding value pair
+value-read o s at h l v p q is =
+    answers (ValueAt at) _ v (toZ w16 (h * 256 + l)) (at + 1 + 1)
+    (run-then _ _ s at (at + 1 + 1) (h * 256 + l) (ask-goes o _ s at h p ∙ ask-goes o _ s (at + 1) l q ∙ run-done _ s (at + 1 + 1)) ∙ run-done _ s (at + 1 + 1))
+    (sym is, omega arith)
 
 -- the row that the code counts is the row after those read
 pub same-row : {A : Type 0} (section : Section) (before : List A) (k : ℕ) (o : Origin) → length before ≡ k → o ≡ origin section (suc k) → o ≡ rowAfter section before

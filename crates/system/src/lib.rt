@@ -2,6 +2,9 @@
 mod events;
 mod kinds;
 mod origin;
+mod range;
+mod variables;
 
 pub use kinds::EventKind;
 pub use kinds::Role;
+pub use range::Range;
