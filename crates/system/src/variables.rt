@@ -55,3 +55,41 @@ fn in_order(r: Range) -> bool
     }
     ordered(r.low, r.marked_low, r.marked_high, r.high)
 }
+
+// A variable's row of ten bytes.
+fn check_variable(file: &[u8], at: usize, origin: Origin) -> Result<(), Fault>
+    ensures says { λ r. ⌜ Says (λ _ v end. end ≡ at + 10) r (run (variableRow origin) (now (file .entry)) at) ⌝ }
+    ensures within { λ r. ⌜ made r (λ _. at + 10 ≤ length (now (file .entry))) ⌝ }
+{
+    let low = check_value(file, at, origin)?;
+    let high = check_value(file, at + 2, origin)?;
+    let start = check_value(file, at + 4, origin)?;
+    let marked_low = check_value(file, at + 6, origin)?;
+    let marked_high = check_value(file, at + 8, origin)?;
+    let range = Range {
+        low,
+        high,
+        start,
+        marked_low,
+        marked_high,
+    };
+    if in_order(range) {
+        Ok(())
+    } else {
+        Err(broken(FileRule::VariableValues, origin, at + 9))
+    }
+}
+
+// How many variables there are; each takes ten bytes.
+pub fn check_variables(file: &[u8], at: usize) -> Result<u8, Fault>
+    requires { ⌜ at ≤ length (now file) ⌝ }
+    ensures says { λ r. ⌜ Says (VariablesAt at) r (run variableSection (now (file .entry)) at) ⌝ }
+    ensures within { λ r. ⌜ made r (λ n. (n ≤ 12) × (at + 1 + 10 * n ≤ length (now (file .entry)))) ⌝ }
+{
+    let variables = count(file, at, count_of(Section::Variables), 0, 12)?;
+    for k in 0..variables {
+        let row = row_after(Section::Variables, k as u16);
+        check_variable(file, at + 1 + 10 * k as usize, row)?;
+    }
+    Ok(variables)
+}
