@@ -2,3 +2,4 @@ pub mod Codes
 pub mod Expr
 pub mod Text
 pub mod Scan
+pub mod Coded

@@ -2,6 +2,7 @@
 ghost use mathlib.Core.Path.{_≡_};
 ghost use Rattle.expr.specs.Codes.{guardCode, termCode};
 
+pub mod checked;
 pub mod code;
 
 use code::GuardCode;
