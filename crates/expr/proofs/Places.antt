@@ -137,8 +137,8 @@ module _ {k : Kind} (s : List ℕ) (at : ℕ) (e : Expr k) (p : Placed s at e) w
       let some = ap length (head-tail e) in
       (omega arith, stands-within s at (bytesOf e) (omega arith) (p .stands))
 
-pub standing-within : (k : Kind) (s : List ℕ) (at : ℕ) → Standing k s at → at < length s
-standing-within k s at h = ∥∥₁-elim (h .some) le-prop (λ w. first-byte s at (w .0) (w .1) .0)
+pub standing : (k : Kind) (s : List ℕ) (at : ℕ) → ∥ ((e : Expr k) × Placed s at e) ∥₁ → Standing k s at
+standing k s at some = record { some = some; within = ∥∥₁-elim some le-prop (λ w. first-byte s at (w .0) (w .1) .0) }
 
 module _ (s : List ℕ) (at : ℕ) where
   guard-at : (code : GuardCode) → code ≡ guardCode (getD s at 0) → (e : Expr guard) → Placed s at e → GuardShape code e
@@ -197,14 +197,14 @@ module _ {j k : Kind} (make : Expr j → Expr j → Expr k) (s : List ℕ) (at :
       (x .0, x .1, x .2, q .0, q .1)
 
   pub two-first : Standing k s at → Standing j s (at + 1)
-  two-first h = record { some = ∥∥₁-map (h .some) (λ w. let x = two-in (w .0) (w .1) in (x .0, x .3)) }
+  two-first h = standing _ s _ (∥∥₁-map (h .some) (λ w. let x = two-in (w .0) (w .1) in (x .0, x .3)))
 
   module _ (m : ℕ) (P : Expr j → Type 0) (one : Spans j s (at + 1) m P) where
     then : (a b : Expr j) → Placed s (at + 1) a → Placed s (at + 1 + length (bytesOf a)) b → Placed s m b
     then a b p q = subst (λ n. Placed s n b) (sym (one .ends a p)) q
 
     pub two-second : Standing k s at → Standing j s m
-    two-second h = record { some = ∥∥₁-map (h .some) (λ w. let x = two-in (w .0) (w .1) in (x .1, then (x .0) (x .1) (x .3) (x .4))) }
+    two-second h = standing _ s _ (∥∥₁-map (h .some) (λ w. let x = two-in (w .0) (w .1) in (x .1, then (x .0) (x .1) (x .3) (x .4))))
 
     pub two-spans : (end : ℕ) (Q : Expr j → Type 0) (R : Expr k → Type 0) → Spans j s m end Q → ((a b : Expr j) → P a → Q b → R (make a b)) → Spans k s at end R
     two-spans end Q R two gives = record {
@@ -227,7 +227,7 @@ truth-spans s at b R is h r = record {
   holds = λ e p. subst R (sym (guard-at s at (G.Truth b) is e p)) r;
   ends = λ e p. let long : length (bytesOf e) ≡ 1 = ap (λ y. length (bytesOf y)) (guard-at s at (G.Truth b) is e p) in omega arith;
   past = omega arith;
-  within = omega (arith, standing-within guard s at h);
+  within = omega (arith, h .within);
 }
 
 -- a negation
@@ -239,7 +239,7 @@ module _ (s : List ℕ) (at : ℕ) (is : G.Not ≡ guardCode (getD s at 0)) wher
       (x .0, x .1, record { stands = first-byte s at (negate (x .0)) q .2; leaves = q .leaves })
 
   pub not-first : Standing guard s at → Standing guard s (at + 1)
-  not-first h = record { some = ∥∥₁-map (h .some) (λ w. let x = negated (w .0) (w .1) in (x .0, x .2)) }
+  not-first h = standing _ s _ (∥∥₁-map (h .some) (λ w. let x = negated (w .0) (w .1) in (x .0, x .2)))
 
   pub not-spans : (end : ℕ) (P R : Expr guard → Type 0) → Spans guard s (at + 1) end P → ((a : Expr guard) → P a → R (negate a)) → Spans guard s at end R
   not-spans end P R one gives = record {
@@ -327,14 +327,14 @@ module _ (s : List ℕ) (at : ℕ) (code : K.Case ≡ termCode (getD s at 0)) wh
       subst (λ y. Branch s at y) (sym (x .3)) q
 
   pub case-first : Standing term s at → Standing guard s (at + 1)
-  case-first h = record { some = ∥∥₁-map (h .some) (λ w. let x = branch-in (w .0) (w .1) in (x .if, x .first)) }
+  case-first h = standing _ s _ (∥∥₁-map (h .some) (λ w. let x = branch-in (w .0) (w .1) in (x .if, x .first)))
 
   module _ (l : ℕ) (P : Expr guard → Type 0) (one : Spans guard s (at + 1) l P) where
     yes-placed : (e : Expr term) (x : Branch s at e) → Placed s l (x .yes)
     yes-placed e x = subst (λ n. Placed s n (x .yes)) (sym (one .ends (x .if) (x .first))) (x .second)
 
     pub case-second : Standing term s at → Standing term s l
-    case-second h = record { some = ∥∥₁-map (h .some) (λ w. let x = branch-in (w .0) (w .1) in (x .yes, yes-placed (w .0) x)) }
+    case-second h = standing _ s _ (∥∥₁-map (h .some) (λ w. let x = branch-in (w .0) (w .1) in (x .yes, yes-placed (w .0) x)))
 
     module _ (m : ℕ) (Q : Expr term → Type 0) (two : Spans term s l m Q) where
       other-placed : (e : Expr term) (x : Branch s at e) → Placed s m (x .other)
@@ -344,7 +344,7 @@ module _ (s : List ℕ) (at : ℕ) (code : K.Case ≡ termCode (getD s at 0)) wh
           subst (λ n. Placed s n (x .other)) (omega arith) (x .third)
 
       pub case-third : Standing term s at → Standing term s m
-      case-third h = record { some = ∥∥₁-map (h .some) (λ w. let x = branch-in (w .0) (w .1) in (x .other, other-placed (w .0) x)) }
+      case-third h = standing _ s _ (∥∥₁-map (h .some) (λ w. let x = branch-in (w .0) (w .1) in (x .other, other-placed (w .0) x)))
 
       pub case-spans : (end : ℕ) (O R : Expr term → Type 0) → Spans term s m end O → ((g : Expr guard) (a b : Expr term) → P g → Q a → O b → R (branch g a b)) → Spans term s at end R
       case-spans end O R three gives = record {

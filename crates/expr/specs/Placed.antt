@@ -15,6 +15,7 @@ pub record Placed {k : Kind} (s : List ℕ) (at : ℕ) (e : Expr k) : Type 0 whe
 -- some expression of the kind stands at the place
 pub record Standing (k : Kind) (s : List ℕ) (at : ℕ) : Type 0 where
   pub some : ∥ ((e : Expr k) × Placed s at e) ∥₁
+  pub within : at < length s
 
 -- P holds of each expression of the kind that stands at the place, and it ends in front of the other
 pub record Spans (k : Kind) (s : List ℕ) (at end : ℕ) (P : Expr k → Type 0) : Type 0 where

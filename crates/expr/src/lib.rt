@@ -1,9 +1,14 @@
 // Guards and terms in prefix byte code.
 ghost use mathlib.Core.Path.{_≡_};
+ghost use Prim.Native.Nat.{_+_, _*_, _<_};
+ghost use lib.ListN.{length, getD};
+ghost use mir.Syntax.{w16};
+ghost use mir.Val.{toZ};
 ghost use Rattle.expr.specs.Codes.{guardCode, termCode};
 
 pub mod checked;
 pub mod code;
+mod eval;
 
 use code::GuardCode;
 use code::TermCode;
@@ -36,4 +41,12 @@ pub fn term_code(b: u8) -> TermCode
         0x14 => TermCode::Case,
         _ => TermCode::Unknown,
     }
+}
+
+// The literal whose two bytes begin at `at`.
+fn literal(s: &[u8], at: usize) -> i16
+    requires { ⌜ at + 1 < length (now s) ⌝ }
+    ensures { λ r. ⌜ r ≡ toZ w16 (getD (now (s .entry)) at 0 * 256 + getD (now (s .entry)) (at + 1) 0) ⌝ }
+{
+    i16::from_be_bytes([s[at], s[at + 1]])
 }
