@@ -10,9 +10,10 @@ use lib.IntN.{ℤ}
 use lib.ListN.{length, getD, length-append}
 use mir.Syntax.{w16}
 use mir.Val.{SFits, toZ, ofZ}
+use Rattle.std.proofs.shelf.Lists.{append-nil}
 use Rattle.std.proofs.shelf.Signed.{toZ-ofZ}
 use Rattle.scan.specs.Stands.{Stands}
-use Rattle.scan.proofs.Standing.{stands-head, stands-split, stands-within}
+use Rattle.scan.proofs.Standing.{stands-front, stands-head, stands-split, stands-within}
 use Rattle.expr.specs.declared.code.Joint.{Joint}
 use Rattle.expr.specs.declared.code.Joint.the-variants.{And, Or}
 use Rattle.expr.specs.declared.code.Order.{Order}
@@ -25,6 +26,7 @@ use Rattle.expr.specs.declared.code.TermCode.{TermCode}
 use Rattle.expr.specs.declared.code.TermCode.the-variants as K
 use Rattle.expr.specs.Codes.{truthByte, jointByte, orderByte, signByte, guardCode, termCode}
 use Rattle.expr.specs.Expr.{Kind, guard, term, Expr, truth, negate, join, test, literal, variable, sum, branch, bytesOf, Leaves, valueBytes}
+use Rattle.expr.specs.Coded.{Coded}
 use Rattle.expr.specs.Placed.{Placed, Standing, Spans}
 
 -- the byte code: its first byte and the rest
@@ -360,3 +362,16 @@ module _ (s : List ℕ) (at : ℕ) (code : K.Case ≡ termCode (getD s at 0)) wh
         past = omega (arith, one .past, two .past, three .past);
         within = three .within;
       }
+
+-- a whole list that is the code of an expression
+pub coded-placed : {k : Kind} (s : List ℕ) (e : Expr k) → Coded s e → Placed s 0 e
+coded-placed s e h = record {
+  stands = stands-front s 0 (bytesOf e) [] (sym (append-nil (bytesOf e) ∙ h .bytes));
+  leaves = h .formed .leaves;
+}
+
+pub coded-standing : (k : Kind) (s : List ℕ) → ∥ ((e : Expr k) × Coded s e) ∥₁ → record { long : length s ≤ 255; standing : Standing k s 0 }
+coded-standing k s some = record {
+  long = ∥∥₁-elim some le-prop (λ w. let e = ap length (w .1 .bytes) in omega (arith, w .1 .formed .short));
+  standing = standing k s 0 (∥∥₁-map some (λ w. (w .0, coded-placed s (w .0) (w .1))));
+}

@@ -3,9 +3,12 @@ ghost use mathlib.Core.Bool.{cond};
 ghost use mathlib.Core.Path.{_≡_};
 ghost use Prim.Native.Nat.{ℕ, _+_, _-_, _≤_, _<_};
 ghost use lib.ListN.{length};
+ghost use Rattle.expr.specs.Coded.{Coded};
 ghost use Rattle.expr.specs.Expr.{Expr, guard, term, joined, tested, summed, eval};
 ghost use Rattle.expr.specs.Placed.{Standing, Spans};
-ghost use Rattle.expr.specs.Values.{valueOf, Within};
+ghost use Rattle.expr.specs.Values.{valueOf, Within, Small};
+use crate::checked::Guard;
+use crate::checked::Term;
 use crate::code::GuardCode;
 use crate::code::Joint;
 use crate::code::Order;
@@ -112,5 +115,24 @@ fn term_value(s: &[u8], at: usize, values: &[i16]) -> (i32, usize)
             (choose(g, a, b), end)
         }
         TermCode::Unknown => unreachable(),
+    }
+}
+
+impl Guard<'_> {
+    // Its value, where a variable past the end of `values` is 0.
+    pub fn value(&self, values: &[i16]) -> bool
+        ensures { λ r. ⌜ ((e : Expr guard) → Coded (now (now (self .entry) .code)) e → r ≡ eval (valueOf (now (values .entry))) e) ⌝ }
+    {
+        guard_value(self.code, 0, values).0
+    }
+}
+
+impl Term<'_> {
+    // Its value, where a variable past the end of `values` is 0.
+    pub fn value(&self, values: &[i16]) -> i32
+        ensures is { λ r. ⌜ ((e : Expr term) → Coded (now (now (self .entry) .code)) e → r ≡ eval (valueOf (now (values .entry))) e) ⌝ }
+        ensures bound { λ r. ⌜ Small r ⌝ }
+    {
+        term_value(self.code, 0, values).0
     }
 }

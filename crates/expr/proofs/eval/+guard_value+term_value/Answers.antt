@@ -1,12 +1,9 @@
 use mathlib.Core.Bool.{not, cond}
 use mathlib.Core.Path.{refl, ap, ap₂, _∙_}
 use native.Mathlib.Omega.{arith}
-use mir.Syntax.{w16}
-use mir.Val.{SFits}
-use Rattle.std.proofs.shelf.Signed.{toZ-ofZ}
 use Rattle.expr.specs.Expr.{joined, tested, summed}
 use Rattle.expr.proofs.Places.{join-two, test-two, sum-two, two-first, two-second, two-spans, not-first, not-spans, truth-spans, literal-within, literal-spans, variable-within, variable-spans, case-first, case-second, case-third, case-spans, no-guard, no-term}
-use Rattle.expr.proofs.Evals.{within-sum, within-more, within-either, within-value, same, term-done, chosen}
+use Rattle.expr.proofs.Evals.{within-sum, within-more, within-either, same, term-done, literal-done, chosen}
 use Rattle.expr.proofs.eval.+guard_value+term_value.Needs as need
 
 pub guard-value-guard-value-a-requires : need.guard-value-guard-value-a-requires
@@ -81,15 +78,12 @@ term-value-unreachable-requires t c κs = no-term _ _ (c .in-Unknown .ensures tt
 
 pub term-value-returns-in-Literal : need.term-value-returns-in-Literal
 term-value-returns-in-Literal t c =
-    let fits : SFits w16 (c .literal .result) = record { sfits = c .literal .ok } in
-    let v = toZ-ofZ w16 (c .literal .result) fits in
-    term-done _ _ _ _ _ (c .pre .long)
-    (literal-spans _ _ (c .in-Literal .ensures tt) _ (c .pre .standing) (v ∙ c .literal .ensures))
-    (rw v (within-more 2 _ _ (within-value (c .literal .result) fits) (omega arith)))
+    literal-done _ _ (c .pre .long) _ _ (c .literal .result) (record { sfits = c .literal .ok }) (omega arith)
+    (literal-spans _ _ (c .in-Literal .ensures tt) _ (c .pre .standing) (c .literal .ensures))
 
 pub term-value-returns-in-Variable : need.term-value-returns-in-Variable
 term-value-returns-in-Variable t c =
-    term-done _ _ _ _ _ (c .pre .long)
+    term-done _ _ (c .pre .long) _ _ _
     (variable-spans _ _ (c .in-Variable .ensures tt) _ (c .pre .standing) (c .variable .ensures .value))
     (within-more 2 _ _ (c .variable .ensures .bound) (omega arith))
 
@@ -100,7 +94,7 @@ term-value-returns-in-Sum t c =
     let a = same _ _ (omega (arith, one .spans .within)) (one .bound) in
     let b = same _ _ (omega (arith, two .spans .within)) (two .bound) in
     let is = c .sum .ensures ∙ ap₂ (summed (c .in-Sum .sign)) a b in
-    term-done _ _ _ _ _ (c .pre .long)
+    term-done _ _ (c .pre .long) _ _ _
     (two-spans _ _ _ (sum-two _ _ _ (c .in-Sum .ensures tt)) _ _ (one .spans) _ _ _ (two .spans) (λ x y p q. is ∙ ap₂ (summed (c .in-Sum .sign)) p q))
     (rw is (within-sum _ _ _ _ _ _ (one .bound) (two .bound) (omega (arith, one .spans .past, two .spans .past))))
 
@@ -112,6 +106,6 @@ term-value-returns-in-Case t c =
     let a = same _ _ (omega (arith, one .spans .within)) (one .bound) in
     let b = same _ _ (omega (arith, two .spans .within)) (two .bound) in
     let is = c .choose .ensures ∙ ap₂ (cond (c .guard-value-g .result .0)) a b in
-    term-done _ _ _ _ _ (c .pre .long)
+    term-done _ _ (c .pre .long) _ _ _
     (case-spans _ _ (c .in-Case .ensures tt) _ _ if _ _ (one .spans) _ _ _ (two .spans) (λ g x y o p q. is ∙ chosen _ _ _ _ _ _ o p q))
     (rw is (within-either _ _ _ _ _ _ (one .bound) (two .bound) (omega (arith, if .past, two .spans .past)) (omega (arith, if .past, one .spans .past))))
