@@ -9,6 +9,7 @@ ghost use Rattle.expr.specs.Codes.{guardCode, termCode};
 pub mod checked;
 pub mod code;
 mod eval;
+pub mod print;
 
 use code::GuardCode;
 use code::TermCode;
