@@ -84,3 +84,77 @@ fn put_sign<S: Sink>(s: &mut S, sign: Sign)
         Sign::Minus => put_text(s, b" - "),
     }
 }
+
+// Prints the guard that stands at `at`, and answers where it ends.
+fn put_guard<S: Sink, N: Names>(s: &mut S, names: &N, code: &[u8], at: usize) -> usize
+    requires long { ⌜ length (now code) ≤ 255 ⌝ }
+    requires standing { ⌜ Standing guard (now code) at ⌝ }
+    ensures { λ r. ⌜ Spans guard (now (code .entry)) at r (λ e. now (s .exit) ≡ folded (S·Sink .step) (now (s .entry)) (textOf (N·Names .name (now (names .entry))) e)) ⌝ }
+{
+    match guard_code(code[at]) {
+        GuardCode::Truth(b) => {
+            put_truth(s, b);
+            at + 1
+        }
+        GuardCode::Not => {
+            put_text(s, b"(!");
+            let end = put_guard(s, names, code, at + 1);
+            put_text(s, b")");
+            end
+        }
+        GuardCode::Join(joint) => {
+            put_text(s, b"(");
+            let next = put_guard(s, names, code, at + 1);
+            put_joint(s, joint);
+            let end = put_guard(s, names, code, next);
+            put_text(s, b")");
+            end
+        }
+        GuardCode::Test(order) => {
+            put_text(s, b"(");
+            let next = put_term(s, names, code, at + 1);
+            put_order(s, order);
+            let end = put_term(s, names, code, next);
+            put_text(s, b")");
+            end
+        }
+        GuardCode::Unknown => unreachable(),
+    }
+}
+
+// Prints the term that stands at `at`, and answers where it ends.
+fn put_term<S: Sink, N: Names>(s: &mut S, names: &N, code: &[u8], at: usize) -> usize
+    requires long { ⌜ length (now code) ≤ 255 ⌝ }
+    requires standing { ⌜ Standing term (now code) at ⌝ }
+    ensures { λ r. ⌜ Spans term (now (code .entry)) at r (λ e. now (s .exit) ≡ folded (S·Sink .step) (now (s .entry)) (textOf (N·Names .name (now (names .entry))) e)) ⌝ }
+{
+    match term_code(code[at]) {
+        TermCode::Literal => {
+            put_value(s, literal(code, at + 1));
+            at + 3
+        }
+        TermCode::Variable => {
+            names.put_name(s, code[at + 1]);
+            at + 2
+        }
+        TermCode::Sum(sign) => {
+            put_text(s, b"(");
+            let next = put_term(s, names, code, at + 1);
+            put_sign(s, sign);
+            let end = put_term(s, names, code, next);
+            put_text(s, b")");
+            end
+        }
+        TermCode::Case => {
+            put_text(s, b"(case ");
+            let first = put_guard(s, names, code, at + 1);
+            put_text(s, b" : ");
+            let next = put_term(s, names, code, first);
+            put_text(s, b"; TRUE : ");
+            let end = put_term(s, names, code, next);
+            put_text(s, b"; esac)");
+            end
+        }
+        TermCode::Unknown => unreachable(),
+    }
+}
