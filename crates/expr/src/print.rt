@@ -158,3 +158,19 @@ fn put_term<S: Sink, N: Names>(s: &mut S, names: &N, code: &[u8], at: usize) -> 
         TermCode::Unknown => unreachable(),
     }
 }
+
+impl Guard<'_> {
+    pub fn put<S: Sink, N: Names>(&self, s: &mut S, names: &N)
+        ensures { λ _. ⌜ ((e : Expr guard) → Coded (now (now (self .entry) .code)) e → now (s .exit) ≡ folded (S·Sink .step) (now (s .entry)) (textOf (N·Names .name (now (names .entry))) e)) ⌝ }
+    {
+        put_guard(s, names, self.code, 0);
+    }
+}
+
+impl Term<'_> {
+    pub fn put<S: Sink, N: Names>(&self, s: &mut S, names: &N)
+        ensures { λ _. ⌜ ((e : Expr term) → Coded (now (now (self .entry) .code)) e → now (s .exit) ≡ folded (S·Sink .step) (now (s .entry)) (textOf (N·Names .name (now (names .entry))) e)) ⌝ }
+    {
+        put_term(s, names, self.code, 0);
+    }
+}
