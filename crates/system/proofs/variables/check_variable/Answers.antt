@@ -51,11 +51,11 @@ returns-then-in-order c =
     let marked-high-same : toZ w16 (ofZ w16 (c .in-Continue-marked-high .marked-high)) ≡ c .in-Continue-marked-high .marked-high = search needs in
     record {
       says = answers _ _ _ _ (c .args .at + 10) (value-then _ _ _ _ _ (c .args .at + 2) (omega arith) (c .in-Continue-low .ensures tt .says)
-      ∙ value-then _ _ _ _ _ (c .args .at + 4) (omega arith) (c .in-Continue-high .ensures tt .says)
-      ∙ value-then _ _ _ _ _ (c .args .at + 6) (omega arith) (c .in-Continue-start .ensures tt .says)
-      ∙ value-then _ _ _ _ _ (c .args .at + 8) (omega arith) (c .in-Continue-marked-low .ensures tt .says)
-      ∙ value-then _ _ _ _ _ (c .args .at + 10) (omega arith) (c .in-Continue-marked-high .ensures tt .says)
-      ∙ ruled-read _ _ _ _ (passed-values _ _ _ _ _ low-same high-same start-same marked-low-same marked-high-same ∙ sym (c .in-order .ensures) ∙ c .if-in-order .taken)) refl;
+          ∙ value-then _ _ _ _ _ (c .args .at + 4) (omega arith) (c .in-Continue-high .ensures tt .says)
+          ∙ value-then _ _ _ _ _ (c .args .at + 6) (omega arith) (c .in-Continue-start .ensures tt .says)
+          ∙ value-then _ _ _ _ _ (c .args .at + 8) (omega arith) (c .in-Continue-marked-low .ensures tt .says)
+          ∙ value-then _ _ _ _ _ (c .args .at + 10) (omega arith) (c .in-Continue-marked-high .ensures tt .says)
+          ∙ ruled-read _ _ _ _ (passed-values _ _ _ _ _ low-same high-same start-same marked-low-same marked-high-same ∙ sym (c .in-order .ensures) ∙ c .if-in-order .taken)) refl;
       within = omega (arith, c .in-Continue-marked-high .ensures tt .within);
     }
 
@@ -68,11 +68,13 @@ returns-else-in-order c =
     let marked-low-same : toZ w16 (ofZ w16 (c .in-Continue-marked-low .marked-low)) ≡ c .in-Continue-marked-low .marked-low = search needs in
     let marked-high-same : toZ w16 (ofZ w16 (c .in-Continue-marked-high .marked-high)) ≡ c .in-Continue-marked-high .marked-high = search needs in
     record {
-      says = record { agree = value-then _ _ _ _ _ (c .args .at + 2) (omega arith) (c .in-Continue-low .ensures tt .says)
-      ∙ value-then _ _ _ _ _ (c .args .at + 4) (omega arith) (c .in-Continue-high .ensures tt .says)
-      ∙ value-then _ _ _ _ _ (c .args .at + 6) (omega arith) (c .in-Continue-start .ensures tt .says)
-      ∙ value-then _ _ _ _ _ (c .args .at + 8) (omega arith) (c .in-Continue-marked-low .ensures tt .says)
-      ∙ value-then _ _ _ _ _ (c .args .at + 10) (omega arith) (c .in-Continue-marked-high .ensures tt .says)
-      ∙ ruled-bad _ _ _ _ (c .args .at + 9) (omega arith) (passed-values _ _ _ _ _ low-same high-same start-same marked-low-same marked-high-same ∙ sym (c .in-order .ensures) ∙ c .if-in-order .left) ∙ ap bad (sym (c .broken .ensures)) };
+      says = record {
+        agree = value-then _ _ _ _ _ (c .args .at + 2) (omega arith) (c .in-Continue-low .ensures tt .says)
+            ∙ value-then _ _ _ _ _ (c .args .at + 4) (omega arith) (c .in-Continue-high .ensures tt .says)
+            ∙ value-then _ _ _ _ _ (c .args .at + 6) (omega arith) (c .in-Continue-start .ensures tt .says)
+            ∙ value-then _ _ _ _ _ (c .args .at + 8) (omega arith) (c .in-Continue-marked-low .ensures tt .says)
+            ∙ value-then _ _ _ _ _ (c .args .at + 10) (omega arith) (c .in-Continue-marked-high .ensures tt .says)
+            ∙ ruled-bad _ _ _ _ (c .args .at + 9) (omega arith) (passed-values _ _ _ _ _ low-same high-same start-same marked-low-same marked-high-same ∙ sym (c .in-order .ensures) ∙ c .if-in-order .left) ∙ ap bad (sym (c .broken .ensures));
+      };
       within = tt;
     }
