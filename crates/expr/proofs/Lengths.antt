@@ -47,7 +47,7 @@ module _ (n : ℕ) (o : Origin) (s : List ℕ) where
     finish p (suc left) stop end (Ok e) is in′ h = absurd (let z : ⊥ = omega (arith, h .0) in z)
     finish p (suc left) stop end (Err f) is in′ (lt, inl h) = record {
       agree = run-ask o _ s stop (omega (arith, h .0)) ∙ left-over left stop (omega (arith, h .0))
-        ∙ ap (λ i. bad (faultAt (Breaks Expression) o i)) (omega arith) ∙ ap bad (sym (h .1));
+          ∙ ap (λ i. bad (faultAt (Breaks Expression) o i)) (omega arith) ∙ ap bad (sym (h .1));
     }
     finish p (suc left) stop end (Err f) is in′ (lt, inr h) = record {
       agree = elim (cases-lt stop (length s)) [

@@ -81,9 +81,9 @@ stands-cons s at x xs under is h = stands-append s at (x ∷ []) xs (subst (λ b
 -- two bytes are a value of 16 bits
 fits16 : (m : ℕ) → m < 65536 → SFits w16 (toZ w16 m)
 fits16 m h = elim (cases-lt m 32768) [
-    | inl low ↦ rw (lt-ltb m 32768 low) (record { sfits = omega arith })
-    | inr high ↦ rw (le-ltb m 32768 high) (record { sfits = omega arith })
-  ]
+  | inl low ↦ rw (lt-ltb m 32768 low) (record { sfits = omega arith })
+  | inr high ↦ rw (le-ltb m 32768 high) (record { sfits = omega arith })
+]
 
 -- what was read: its bytes stand there, and it keeps the depth, the length and the numbers
 pub record Parsed (n d : ℕ) {k : Kind} (left : ℕ) (s : List ℕ) (at : ℕ) (p : Part k) (end : ℕ) : Type 0 where
@@ -177,9 +177,9 @@ module _ (n : ℕ) (o : Origin) (s : List ℕ) (bytes : Bytes s) where
         let v = getD s (at + 1) 0 in
         elim (cases-bool (ltb v n)) [
           | inl yes′ ↦
-            let e = rw yes′ at (r .3) in
-            let stop : at + 1 + 1 ≡ end = cc in
-            packed left at 0x11 (variable v) (v ∷ []) (r .0) p end (cc) under head refl (stands-one s (at + 1) (r .2)) (omega arith) (omega (arith, r .1)) (omega arith) (ltb-true v n yes′)
+              let e = rw yes′ at (r .3) in
+              let stop : at + 1 + 1 ≡ end = cc in
+              packed left at 0x11 (variable v) (v ∷ []) (r .0) p end (cc) under head refl (stands-one s (at + 1) (r .2)) (omega arith) (omega (arith, r .1)) (omega arith) (ltb-true v n yes′)
           | inr no′ ↦ absurd (let e = rw no′ at (r .3) in let z : _≡_ {A = ℕ} 0 1 = cc in omega arith)
         ]
 

@@ -50,12 +50,16 @@ module _ (n : ℕ) (o : Origin) (k : Kind) where
       let p = r .0 in
       let f = finished-read p (p .left) s (r .1) e end (r .3) in
       let g = sound n o s bytes 16 k (suc left) at p (r .1) (r .2) in
-      let long : length (bytesOf (p .expr)) ≡ length (bytesOf e) = ap (λ x. length (bytesOf x)) (f .1) in
-      (record {
-        short = omega (arith, g .uses, f .0);
-        shallow = subst (λ x. depth x ≤ 16) (f .1) (g .shallow);
-        leaves = subst (λ x. Leaves (λ v. v < n) (SFits w16) x) (f .1) (g .leaves);
-      }, subst (λ x. Stands s at (bytesOf x)) (f .1) (g .stands), omega (arith, g .uses, f .0), omega (arith, g .ends, f .2))
+      let long : length (bytesOf (p .expr)) ≡ length (bytesOf e) = ap (λ x. length (bytesOf x)) (f .1) in (
+        record {
+          short = omega (arith, g .uses, f .0);
+          shallow = subst (λ x. depth x ≤ 16) (f .1) (g .shallow);
+          leaves = subst (λ x. Leaves (λ v. v < n) (SFits w16) x) (f .1) (g .leaves);
+        },
+        subst (λ x. Stands s at (bytesOf x)) (f .1) (g .stands),
+        omega (arith, g .uses, f .0),
+        omega (arith, g .ends, f .2),
+      )
 
   finished-whole : (p : Part k) (left : ℕ) (s : List ℕ) (at : ℕ) → left ≡ 0 → run (finished n o p left) s at ≡ good (p .expr) at
   unfolding finished

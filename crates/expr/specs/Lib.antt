@@ -4,3 +4,6 @@ pub mod Text
 pub mod Scan
 pub mod Ends
 pub mod Sized
+pub mod Coded
+pub mod Placed
+pub mod Values

@@ -1,12 +1,26 @@
 // Guards and terms in prefix byte code.
 ghost use mathlib.Core.Path.{_≡_};
+ghost use Prim.Native.Nat.{_+_, _*_, _<_};
+ghost use lib.ListN.{length, getD};
+ghost use mir.Syntax.{w16};
+ghost use mir.Val.{toZ};
 ghost use Rattle.expr.specs.Codes.{guardCode, termCode};
 
 mod check;
+mod checked;
 pub mod code;
+mod eval;
+mod print;
 
+pub use check::guard_at;
+pub use check::term_at;
+pub use checked::Guard;
+pub use checked::Term;
 use code::GuardCode;
 use code::TermCode;
+pub use print::Names;
+pub use print::Numbered;
+pub use print::NumberedNames;
 
 pub fn guard_code(b: u8) -> GuardCode
     ensures { λ r. ⌜ r ≡ guardCode b ⌝ }
@@ -36,4 +50,12 @@ pub fn term_code(b: u8) -> TermCode
         0x14 => TermCode::Case,
         _ => TermCode::Unknown,
     }
+}
+
+// The literal whose two bytes begin at `at`.
+fn literal(s: &[u8], at: usize) -> i16
+    requires { ⌜ at + 1 < length (now s) ⌝ }
+    ensures { λ r. ⌜ r ≡ toZ w16 (getD (now (s .entry)) at 0 * 256 + getD (now (s .entry)) (at + 1) 0) ⌝ }
+{
+    i16::from_be_bytes([s[at], s[at + 1]])
 }

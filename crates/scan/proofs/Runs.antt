@@ -83,6 +83,25 @@ module _ {A B R Q : Type 0} (K : R → A → ℕ → Type 0) (L : Q → B → �
       let w = says .agree in
       rw (run-then p next s at (w .end) (w .value) (w .is)) (then′ (w .value) (w .end) (w .holds))
 
+-- the same, where the first part reads the value that the code has
+module _ {A B R : Type 0} (p : Scan A) (next : A → Scan B) (s : List ℕ) (at : ℕ) where
+  pub then-bad : (K : R → A → ℕ → Type 0) (f : Fault) → Says K (Err f) (run p s at) → run (andThen p next) s at ≡ bad f
+  then-bad K f says = run-fails p next s at f (says .agree)
+
+  pub then-read : (K : R → A → ℕ → Type 0) (v : R) (a : A) (end : ℕ) → ((x : A) (e : ℕ) → K v x e → (x ≡ a) × (e ≡ end)) → Says K (Ok v) (run p s at) → run (andThen p next) s at ≡ run (next a) s end
+  then-read K v a end same says =
+      let w = says .agree in
+      let h = same (w .value) (w .end) (w .holds) in
+      run-then p next s at (w .end) (w .value) (w .is) ∙ rw (h .0, h .1)
+
+-- after one byte
+module _ {B : Type 0} (p : Scan ℕ) (next : ℕ → Scan B) (s : List ℕ) (at : ℕ) where
+  pub byte-bad : (f : Fault) → Says (Next at) (Err f) (run p s at) → run (andThen p next) s at ≡ bad f
+  byte-bad f says = then-bad p next s at (Next at) f says
+
+  pub byte-read : (b : ℕ) → Says (Next at) (Ok b) (run p s at) → run (andThen p next) s at ≡ run (next b) s (at + 1)
+  byte-read b says = then-read p next s at (Next at) b b (at + 1) (λ x e h. h) says
+
 -- a byte that is tested
 module _ (o : Origin) (rule : FileRule) (test : ℕ → Bool) (s : List ℕ) (at : ℕ) where
   pub test-ends : (f : Fault) → (length s ≤ at) × (f ≡ faultAt EndsTooSoon o at) → Says (Next at) (Err f) (run (tested o rule test) s at)

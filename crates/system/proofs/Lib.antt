@@ -1,3 +1,4 @@
+pub mod Sections
 pub mod Eaches
 pub mod EventRows
 pub mod VariableRows

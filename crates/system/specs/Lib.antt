@@ -2,3 +2,4 @@ pub mod System
 pub mod Formed
 pub mod Encode
 pub mod Scan
+pub mod Ranges

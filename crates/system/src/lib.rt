@@ -1,5 +1,10 @@
 // The system file: events, bounded variables, automata and their transitions.
+mod events;
 mod kinds;
+mod origin;
+mod range;
+mod variables;
 
 pub use kinds::EventKind;
 pub use kinds::Role;
+pub use range::Range;
