@@ -43,17 +43,18 @@ module _ {A : Type 0} (one : List A → Scan A) (s : List ℕ) where
       go zero e = run-done before s at
       go (suc m) e = absurd (let z : ⊥ = omega arith in z)
 
+  -- one turn; what holds of the things read may change with it
+  pub going-more : (P Q : List A → Type 0) (whole : Out (List A)) (n k at end : ℕ) → k < n → (g : Going P one s whole n k at) → (a : A) → run (one (g .before)) s at ≡ good a end → Q (g .before ++ a ∷ []) → Going Q one s whole n (k + 1) end
+  going-more P Q whole n k at end under g a is holds = record {
+    before = g .before ++ a ∷ [];
+    count = length-push (g .before) a ∙ ap (λ i. i + 1) (g .count);
+    is = g .is ∙ collect-more n k (g .before) at a end under is;
+    holds = holds;
+  }
+
   module _ (P : List A → Type 0) (whole : Out (List A)) (n : ℕ) where
     pub going-none : (at : ℕ) → whole ≡ run (collect n one []) s at → P [] → Going P one s whole n 0 at
     going-none at is holds = record { before = []; count = refl; is = is ∙ ap (λ m. run (collect m one []) s at) (let e : n ≡ n - 0 = omega arith in e); holds = holds }
-
-    pub going-more : (k at end : ℕ) → k < n → (g : Going P one s whole n k at) → (a : A) → run (one (g .before)) s at ≡ good a end → P (g .before ++ a ∷ []) → Going P one s whole n (k + 1) end
-    going-more k at end under g a is holds = record {
-      before = g .before ++ a ∷ [];
-      count = length-push (g .before) a ∙ ap (λ i. i + 1) (g .count);
-      is = g .is ∙ collect-more n k (g .before) at a end under is;
-      holds = holds;
-    }
 
     pub going-bad : (k at : ℕ) (f : Fault) → k < n → (g : Going P one s whole n k at) → run (one (g .before)) s at ≡ bad f → whole ≡ bad f
     going-bad k at f under g is = g .is ∙ collect-bad n k (g .before) at f under is

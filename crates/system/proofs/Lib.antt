@@ -6,3 +6,4 @@ pub mod HeadRows
 pub mod TransitionRows
 pub mod Assembled
 pub mod Files
+pub mod Numbers

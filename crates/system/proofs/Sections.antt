@@ -22,7 +22,8 @@ use Rattle.scan.proofs.Runs.{run-done, run-refuse, run-then, run-fails, ask-goe
 use Rattle.scan.proofs.Loops.{Going, going-none, going-more, going-bad, going-all}
 use Rattle.system.specs.System.{EventKind, Variable}
 use Rattle.system.specs.Ranges.{ValueAt}
-use Rattle.system.specs.Scan.{origin, rowAfter, kindOf, eventRow, events, value, inOrder, ruled, variableRow, variables}
+use Rattle.system.proofs.Eaches.{bound-append}
+use Rattle.system.specs.Scan.{origin, rowAfter, kindOf, eventRow, events, value, inOrder, ruled, variableRow, variables, mark, markOf, rising, bound}
 
 -- a value of two bytes
 pub value-read : (o : Origin) (s : List ℕ) (at h l : ℕ) (v : ℤ) → (at < length s) × (h ≡ getD s at 0) → (at + 1 < length s) × (l ≡ getD s (at + 1) 0) → v ≡ toZ w16 (h * 256 + l) → Says (ValueAt at) (Ok v) (run (value o) s at)
@@ -43,6 +44,10 @@ module _ {B : Type 0} (o : Origin) (next : ℤ → Scan B) (s : List ℕ) (at : 
 -- the row that the code counts is the row after those read
 pub same-row : {A : Type 0} (section : Section) (before : List A) (k : ℕ) (o : Origin) → length before ≡ k → o ≡ origin section (suc k) → o ≡ rowAfter section before
 same-row section before k o count is = is ∙ ap (λ n. origin section (suc n)) (sym count)
+
+-- the floor after a number that is not below it
+pub bound-next : (before : List ℕ) (x : ℕ) → bound before ≤ x → bound (before ++ x ∷ []) ≡ x + 1
+bound-next before x h = let e = bound-append before (x ∷ []) in omega arith
 
 module _ (s : List ℕ) where
   abbrev pub eventAt : List EventKind → Scan EventKind
@@ -70,7 +75,7 @@ module _ (s : List ℕ) where
   pub event-read : (n k : ℕ) (o : Origin) (b : ℕ) → k < n → o ≡ origin Events (suc k) → EventsGoing n k → Says (Next (k + 1)) (Ok b) (run (zeroOrOne o) s (k + 1)) → EventsGoing n (k + 1)
   unfolding eventRow
   event-read n k o b under is g says =
-      going-more eventAt s _ _ n k (k + 1) (k + 1 + 1) under g (kindOf b)
+      going-more eventAt s _ _ _ n k (k + 1) (k + 1 + 1) under g (kindOf b)
       (byte-read _ _ s (k + 1) b (subst (λ x. Says (Next (k + 1)) (Ok b) (run (zeroOrOne x) s (k + 1))) (same-row Events (g .before) k o (g .count) is) says) ∙ run-done _ s (k + 1 + 1)) tt
 
 -- signed values that are passed show as their bits and back
@@ -112,6 +117,40 @@ module _ (s : List ℕ) (at : ℕ) where
   pub variable-read : (n k : ℕ) (o : Origin) (v : Variable) (end : ℕ) → k < n → o ≡ origin Variables (suc k) → VariablesGoing n k → run (variableRow o) s (at + 1 + 10 * k) ≡ good v end → end ≡ at + 1 + 10 * k + 10 → VariablesGoing n (k + 1)
   variable-read n k o v end under is g read e =
       let q : end ≡ at + 1 + 10 * (k + 1) = omega arith in
-      going-more variableAt s _ _ n k (at + 1 + 10 * k) (at + 1 + 10 * (k + 1)) under g v
+      going-more variableAt s _ _ _ n k (at + 1 + 10 * k) (at + 1 + 10 * (k + 1)) under g v
       (subst (λ i. run (variableAt (g .before)) s (at + 1 + 10 * k) ≡ good v i) q
       (subst (λ x. run (variableRow x) s (at + 1 + 10 * k) ≡ good v end) (same-row Variables (g .before) k o (g .count) is) read)) tt
+
+-- marks and alphabets
+module _ (o : Origin) (s : List ℕ) where
+  pub mark-bad : (at : ℕ) (f : Fault) → Says (Next at) (Err f) (run (zeroOrOne o) s at) → run (mark o) s at ≡ bad f
+  unfolding mark
+  mark-bad at f says = byte-bad _ _ s at f says
+
+  abbrev pub MarksGoing : ℕ → ℕ → ℕ → Type 0
+  MarksGoing at n k = Going (λ _. Unit {0}) (λ _. mark o) s (run (collect n (λ _. mark o) []) s at) n k (at + k)
+
+  pub mark-read : (at n k b : ℕ) → k < n → MarksGoing at n k → Says (Next (at + k)) (Ok b) (run (zeroOrOne o) s (at + k)) → MarksGoing at n (k + 1)
+  unfolding mark
+  mark-read at n k b under g says =
+      let e : at + k + 1 ≡ at + (k + 1) = omega arith in
+      going-more (λ _. mark o) s _ _ _ n k (at + k) (at + (k + 1)) under g (markOf b)
+      (byte-read _ _ s (at + k) b says ∙ run-done _ s (at + k + 1) ∙ ap (good (markOf b)) e) tt
+
+  abbrev pub letter : ℕ → List ℕ → Scan ℕ
+  letter m before = rising o m (bound before)
+
+  abbrev pub AlphabetGoing : ℕ → ℕ → ℕ → ℕ → ℕ → Type 0
+  AlphabetGoing m at floor n k = Going (λ before. bound before ≡ floor) (letter m) s (run (collect n (letter m) []) s at) n k (at + k)
+
+  pub alphabet-bad : (m at floor n k : ℕ) (f : Fault) → k < n → AlphabetGoing m at floor n k → Says (Next (at + k)) (Err f) (run (rising o m floor) s (at + k)) → run (collect n (letter m) []) s at ≡ bad f
+  alphabet-bad m at floor n k f under g says =
+      going-bad (letter m) s _ _ n k (at + k) f under g (subst (λ b. run (rising o m b) s (at + k) ≡ bad f) (sym (g .holds)) (says .agree))
+
+  pub alphabet-read : (m at floor n k e : ℕ) → k < n → AlphabetGoing m at floor n k → Says (Next (at + k)) (Ok e) (run (rising o m floor) s (at + k)) → floor ≤ e → AlphabetGoing m at (e + 1) n (k + 1)
+  alphabet-read m at floor n k e under g says above =
+      let w = says .agree in
+      let stop : w .end ≡ at + (k + 1) = omega (arith, w .holds .1) in
+      going-more (letter m) s _ (λ before. bound before ≡ e + 1) _ n k (at + k) (at + (k + 1)) under g e
+      (subst (λ b. run (rising o m b) s (at + k) ≡ good e (at + (k + 1))) (sym (g .holds)) (w .is ∙ rw (w .holds .0, stop)))
+      (bound-next (g .before) e (omega (arith, g .holds)))

@@ -3,3 +3,4 @@ pub mod Formed
 pub mod Encode
 pub mod Scan
 pub mod Ranges
+pub mod Heads

@@ -1,4 +1,5 @@
 // The system file: events, bounded variables, automata and their transitions.
+mod automata;
 mod events;
 mod kinds;
 mod origin;

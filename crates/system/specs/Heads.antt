@@ -1,0 +1,17 @@
+-- Automata's rows in a file, by where they begin.
+use Prim.Native.Nat.{ℕ, _+_, _<_}
+use mathlib.Core.Bool.{Bool}
+use mathlib.Core.List.{List}
+use mathlib.Core.Path.{_≡_}
+use lib.ListN.{length, getD}
+use Rattle.scan.specs.Stands.{Stands}
+use Rattle.system.specs.System.{Automaton, idle}
+use Rattle.system.specs.Encode.{headBytes}
+
+-- each automaton's row begins where the list says
+abbrev pub HeadsAt : List ℕ → List ℕ → List Automaton → Type 0
+HeadsAt s rows As = (k : ℕ) → k < length As → Stands s (getD rows k 0) (headBytes (getD As k idle))
+
+-- n things that take a byte each
+abbrev pub BytesEach : {A : Type 0} → ℕ → ℕ → List A → ℕ → Type 0
+BytesEach at n xs end = (length xs ≡ n) × (end ≡ at + n)
