@@ -102,6 +102,10 @@ module _ {B : Type 0} (p : Scan ℕ) (next : ℕ → Scan B) (s : List ℕ) (at 
   pub byte-read : (b : ℕ) → Says (Next at) (Ok b) (run p s at) → run (andThen p next) s at ≡ run (next b) s (at + 1)
   byte-read b says = then-read p next s at (Next at) b b (at + 1) (λ x e h. h) says
 
+  -- to the place that the code has next
+  pub byte-then : (b end : ℕ) → end ≡ at + 1 → Says (Next at) (Ok b) (run p s at) → run (andThen p next) s at ≡ run (next b) s end
+  byte-then b end e says = byte-read b says ∙ ap (λ i. run (next b) s i) (sym e)
+
 -- a byte that is tested
 module _ (o : Origin) (rule : FileRule) (test : ℕ → Bool) (s : List ℕ) (at : ℕ) where
   pub test-ends : (f : Fault) → (length s ≤ at) × (f ≡ faultAt EndsTooSoon o at) → Says (Next at) (Err f) (run (tested o rule test) s at)

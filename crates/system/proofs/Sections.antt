@@ -8,6 +8,7 @@ use lib.IntN.{ℤ}
 use lib.ListN.{length, getD}
 use mir.Syntax.{w16}
 use mir.Val.{toZ, ofZ}
+use Rattle.std.specs.declared.result.Result.{Result}
 use Rattle.std.specs.declared.result.Result.the-variants.{Ok, Err}
 use Rattle.scan.specs.declared.refusal.Origin.{Origin}
 use Rattle.scan.specs.declared.refusal.Section.{Section}
@@ -18,10 +19,11 @@ use Rattle.scan.specs.declared.refusal.FileRule.the-variants.{VariableValues, K
 use Rattle.scan.specs.Faults.{faultAt}
 use Rattle.scan.specs.Scan.{Scan, done, andThen, Out, good, bad, run, counted, zeroOrOne, pair, collect}
 use Rattle.scan.specs.Says.{Says, Next}
-use Rattle.scan.proofs.Runs.{run-done, run-refuse, run-then, run-fails, ask-goes, answers, byte-bad, byte-read, then-bad, then-read}
+use Rattle.scan.proofs.Runs.{run-done, run-refuse, run-then, run-fails, ask-goes, answers, says-by, byte-bad, byte-read, then-bad, then-read}
 use Rattle.scan.proofs.Loops.{Going, going-none, going-more, going-bad, going-all}
 use Rattle.system.specs.System.{EventKind, Variable}
 use Rattle.system.specs.Ranges.{ValueAt}
+use Rattle.system.specs.Heads.{BytesEach}
 use Rattle.system.proofs.Eaches.{bound-append}
 use Rattle.system.specs.Scan.{origin, rowAfter, kindOf, eventRow, events, value, inOrder, ruled, variableRow, variables, mark, markOf, rising, bound}
 
@@ -154,3 +156,18 @@ module _ (o : Origin) (s : List ℕ) where
       going-more (letter m) s _ (λ before. bound before ≡ e + 1) _ n k (at + k) (at + (k + 1)) under g e
       (subst (λ b. run (rising o m b) s (at + k) ≡ good e (at + (k + 1))) (sym (g .holds)) (w .is ∙ rw (w .holds .0, stop)))
       (bound-next (g .before) e (omega (arith, g .holds)))
+
+-- things of a byte each, and what follows them
+module _ {A B : Type 0} (p : Scan (List A)) (next : List A → Scan B) (s : List ℕ) (at n : ℕ) where
+  pub bytes-bad : (f : Fault) → Says {R = Unit {0}} (λ _ xs end. BytesEach at n xs end) (Err f) (run p s at) → run (andThen p next) s at ≡ bad f
+  bytes-bad f says = run-fails p next s at f (says .agree)
+
+  pub bytes-read : (m : Out B) → Says {R = Unit {0}} (λ _ xs end. BytesEach at n xs end) (Ok tt) (run p s at) → ((xs : List A) → run (next xs) s (at + n) ≡ m) → run (andThen p next) s at ≡ m
+  bytes-read m says then′ =
+      let w = says .agree in
+      run-then p next s at (w .end) (w .value) (w .is) ∙ ap (λ i. run (next (w .value)) s i) (w .holds .1) ∙ then′ (w .value)
+
+  pub bytes-pass : {R : Type 0} (K : R → B → ℕ → Type 0) (r : Result R Fault) → Says {R = Unit {0}} (λ _ xs end. BytesEach at n xs end) (Ok tt) (run p s at) → ((xs : List A) → Says K r (run (next xs) s (at + n))) → Says K r (run (andThen p next) s at)
+  bytes-pass K r says then′ =
+      let w = says .agree in
+      says-by K _ r _ (run-then p next s at (w .end) (w .value) (w .is) ∙ ap (λ i. run (next (w .value)) s i) (w .holds .1)) (then′ (w .value))

@@ -6,7 +6,7 @@ ghost use lib.ListN.{length};
 ghost use Rattle.std.specs.Vec.{made};
 ghost use Rattle.scan.specs.Scan.{run, collect};
 ghost use Rattle.scan.specs.Says.{Says, Next};
-ghost use Rattle.system.specs.Scan.{mark, rising, bound};
+ghost use Rattle.system.specs.Scan.{mark, rising, bound, headRow, heads as automatonSection};
 ghost use Rattle.system.specs.Heads.{BytesEach};
 use crate::origin::count_of;
 use crate::origin::row_after;
@@ -56,4 +56,19 @@ fn check_alphabet(file: &[u8], at: usize, origin: Origin, size: u8, events: u8) 
         floor = e as u16 + 1;
     }
     Ok(())
+}
+
+// An automaton's row: where it ends.
+fn check_head(file: &[u8], at: usize, origin: Origin, events: u8) -> Result<usize, Fault>
+    ensures says { λ r. ⌜ Says (λ stop A end. stop ≡ end) r (run (headRow events origin) (now (file .entry)) at) ⌝ }
+    ensures within { λ r. ⌜ made r (λ stop. stop ≤ length (now (file .entry))) ⌝ }
+{
+    zero_or_one(file, at, origin)?;
+    let locations = count(file, at + 1, origin, 1, 64)?;
+    number(file, at + 2, origin, locations)?;
+    check_marks(file, at + 3, origin, locations)?;
+    let next = at + 3 + locations as usize;
+    let size = count(file, next, origin, 1, 24)?;
+    check_alphabet(file, next + 1, origin, size, events)?;
+    Ok(next + 1 + size as usize)
 }
