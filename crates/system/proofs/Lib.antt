@@ -7,3 +7,4 @@ pub mod TransitionRows
 pub mod Assembled
 pub mod Files
 pub mod Numbers
+pub mod Starts

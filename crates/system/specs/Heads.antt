@@ -9,8 +9,8 @@ use Rattle.system.specs.System.{Automaton, idle}
 use Rattle.system.specs.Encode.{headBytes}
 
 -- each automaton's row begins where the list says
-abbrev pub HeadsAt : List ℕ → List ℕ → List Automaton → Type 0
-HeadsAt s rows As = (k : ℕ) → k < length As → Stands s (getD rows k 0) (headBytes (getD As k idle))
+pub record HeadsAt (s rows : List ℕ) (As : List Automaton) : Type 0 where
+  pub begin : (k : ℕ) → k < length As → Stands s (getD rows k 0) (headBytes (getD As k idle))
 
 -- n things that take a byte each
 abbrev pub BytesEach : {A : Type 0} → ℕ → ℕ → List A → ℕ → Type 0

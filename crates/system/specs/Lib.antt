@@ -4,3 +4,4 @@ pub mod Encode
 pub mod Scan
 pub mod Ranges
 pub mod Heads
+pub mod Found

@@ -8,6 +8,7 @@ ghost use Rattle.scan.specs.Scan.{run, collect};
 ghost use Rattle.scan.specs.Says.{Says, Next};
 ghost use Rattle.system.specs.Scan.{mark, rising, bound, headRow, heads as automatonSection};
 ghost use Rattle.system.specs.Heads.{BytesEach};
+ghost use Rattle.system.specs.Found.{HeadsFound};
 use crate::origin::count_of;
 use crate::origin::row_after;
 use scan::Fault;
@@ -71,4 +72,27 @@ fn check_head(file: &[u8], at: usize, origin: Origin, events: u8) -> Result<usiz
     let size = count(file, next, origin, 1, 24)?;
     check_alphabet(file, next + 1, origin, size, events)?;
     Ok(next + 1 + size as usize)
+}
+
+// Where the automata's rows begin, and where the last one ends.
+#[derive(Clone, Copy)]
+pub struct Heads {
+    pub count: u8,
+    pub rows: [usize; 12],
+    pub end: usize,
+}
+
+// The automata's rows.
+pub fn check_heads(file: &[u8], at: usize, events: u8) -> Result<Heads, Fault>
+    ensures says { λ r. ⌜ Says (HeadsFound (now (file .entry))) r (run (automatonSection events) (now (file .entry)) at) ⌝ }
+    ensures within { λ r. ⌜ made r (λ h. (h .count ≤ 12) × (h .end ≤ length (now (file .entry)))) ⌝ }
+{
+    let count = count(file, at, count_of(Section::Automata), 1, 12)?;
+    let mut rows = [0; 12];
+    let mut end = at + 1;
+    for k in 0..count {
+        rows[k as usize] = end;
+        end = check_head(file, end, row_after(Section::Automata, k as u16), events)?;
+    }
+    Ok(Heads { count, rows, end })
 }
