@@ -8,3 +8,4 @@ pub mod Assembled
 pub mod Files
 pub mod Numbers
 pub mod Starts
+pub mod HeadParts

@@ -25,18 +25,20 @@ use Rattle.system.proofs.HeadRows.{codec-head}
 
 -- one row more
 pub heads-more : (s rows : List ℕ) (As : List Automaton) (A : Automaton) (k at : ℕ) → length As ≡ k → k < length rows → HeadsAt s rows As → Stands s at (headBytes A) → HeadsAt s (set rows k at) (As ++ A ∷ [])
-heads-more s rows As A k at count room h here = record { begin = λ j under.
-    elim (cases-eq j k) [
-      | inl same ↦
-          let e : getD (set rows k at) j 0 ≡ at = ap (λ i. getD (set rows k at) i 0) same ∙ getD-set-same rows k at 0 room in
-          let q : getD (As ++ A ∷ []) j idle ≡ A = getD-push As A idle j (count ∙ sym same) in
-          rw (e, q) here
-      | inr other ↦
-          let below : j < length As = omega (arith, length-push As A) in
-          let e : getD (set rows k at) j 0 ≡ getD rows j 0 = getD-set-other rows k j at 0 other in
-          let q : getD (As ++ A ∷ []) j idle ≡ getD As j idle = getD-append-left As (A ∷ []) idle j below in
-          rw (e, q) (h .begin j below)
-    ] }
+heads-more s rows As A k at count room h here = record {
+  begin = λ j under.
+      elim (cases-eq j k) [
+        | inl same ↦
+            let e : getD (set rows k at) j 0 ≡ at = ap (λ i. getD (set rows k at) i 0) same ∙ getD-set-same rows k at 0 room in
+            let q : getD (As ++ A ∷ []) j idle ≡ A = getD-push As A idle j (count ∙ sym same) in
+            rw (e, q) here
+        | inr other ↦
+            let below : j < length As = omega (arith, length-push As A) in
+            let e : getD (set rows k at) j 0 ≡ getD rows j 0 = getD-set-other rows k j at 0 other in
+            let q : getD (As ++ A ∷ []) j idle ≡ getD As j idle = getD-append-left As (A ∷ []) idle j below in
+            rw (e, q) (h .begin j below)
+      ];
+}
 
 module _ (s : List ℕ) (n at : ℕ) where
   abbrev pub headAt : List Automaton → Scan Automaton

@@ -1,6 +1,7 @@
 // The system file: events, bounded variables, automata and their transitions.
 mod automata;
 mod events;
+mod heads;
 mod kinds;
 mod origin;
 mod range;
