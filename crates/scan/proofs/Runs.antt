@@ -73,6 +73,16 @@ run-then p next s at end a is = run-after p next s at ∙ ap (λ m. after m (λ 
 pub run-fails : {A B : Type 0} (p : Scan A) (next : A → Scan B) (s : List ℕ) (at : ℕ) (f : Fault) → run p s at ≡ bad f → run (andThen p next) s at ≡ bad f
 run-fails p next s at f is = run-after p next s at ∙ ap (λ m. after m (λ b e. run (next b) s e)) is
 
+pub run-assoc : {A B C : Type 0} (p : Scan A) (q : A → Scan B) (r : B → Scan C) (s : List ℕ) (at : ℕ) → run (andThen p (λ a. andThen (q a) r)) s at ≡ run (andThen (andThen p q) r) s at
+unfolding run andThen
+run-assoc (done x) q r s at = refl
+run-assoc (refuse o rule) q r s at = refl
+run-assoc (ask o go) q r s at =
+    elim (cases-bool (ltb at (length s))) [
+      | inl here ↦ rw here (run-assoc (go (getD s at 0)) q r s (at + 1))
+      | inr past ↦ rw past
+    ]
+
 -- the first part refuses; it reads a value, and the rest goes on from there
 module _ {A B R Q : Type 0} (K : R → A → ℕ → Type 0) (L : Q → B → ℕ → Type 0) (p : Scan A) (next : A → Scan B) (s : List ℕ) (at : ℕ) where
   pub failed : (r : Result Q Fault) (f x : Fault) → r ≡ Err x → x ≡ f → Says K (Err f) (run p s at) → Says L r (run (andThen p next) s at)

@@ -9,3 +9,5 @@ pub mod Files
 pub mod Numbers
 pub mod Starts
 pub mod HeadParts
+pub mod Updates
+pub mod Rows

@@ -51,6 +51,9 @@ same-row section before k o count is = is ∙ ap (λ n. origin section (suc n)) 
 pub bound-next : (before : List ℕ) (x : ℕ) → bound before ≤ x → bound (before ++ x ∷ []) ≡ x + 1
 bound-next before x h = let e = bound-append before (x ∷ []) in omega arith
 
+pub bound-same : (before : List ℕ) (x : ℕ) → bound before ≤ suc x → bound (before ++ x ∷ []) ≡ x + 1
+bound-same before x h = let e = bound-append before (x ∷ []) in omega arith
+
 module _ (s : List ℕ) where
   abbrev pub eventAt : List EventKind → Scan EventKind
   eventAt before = eventRow (rowAfter Events before)

@@ -5,6 +5,7 @@ mod heads;
 mod kinds;
 mod origin;
 mod range;
+mod transitions;
 mod variables;
 
 pub use kinds::EventKind;
