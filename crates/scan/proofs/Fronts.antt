@@ -5,7 +5,7 @@ use mathlib.Core.List.{List, [], _∷_, _++_}
 use mathlib.Core.Logic.{_⊎_, inl, inr}
 use native.Mathlib.Omega.{arith}
 use lib.ListN.{length, take, getD, length-take}
-use Rattle.std.proofs.shelf.Lists.{getD-take}
+use Rattle.std.proofs.shelf.Lists.{getD-take, getD-past, take-take}
 use Rattle.std.proofs.shelf.Tests.{cases-lt}
 use Rattle.scan.specs.declared.refusal.Origin.{Origin}
 use Rattle.scan.specs.declared.refusal.Fault.{Fault}
@@ -16,6 +16,7 @@ use Rattle.scan.specs.declared.refusal.FileRule.{FileRule}
 use Rattle.scan.specs.Faults.{faultAt}
 use Rattle.scan.specs.Scan.{Scan, done, refuse, ask, Out, good, bad, run}
 use Rattle.scan.specs.Fronts.{SameFront}
+use Rattle.scan.specs.Stands.{Bytes}
 use Rattle.scan.proofs.Runs.{run-done, run-ask, run-short}
 use Rattle.scan.proofs.Codecs.{asked-read}
 
@@ -134,4 +135,39 @@ never-follows (ask q go) s at o i is =
     elim (asked-bad q go s at _ is) [
       | inl g ↦ let e = g .1 in absurd (let z : _≡_ {A = ℕ} 0 1 = cc in omega arith)
       | inr g ↦ never-follows (go (getD s at 0)) s (at + 1) o i (g .1)
+    ]
+
+-- a scanner that begins by asking for a byte
+abbrev pub Asks : {A : Type 0} → Scan A → Type 0
+Asks (done x) = ⊥
+Asks (refuse o rule) = ⊥
+Asks (ask o go) = Unit {0}
+
+pub broken-inside : {A : Type 0} (p : Scan A) (s : List ℕ) (rule : FileRule) (o : Origin) (i : ℕ) → Asks p → run p s 0 ≡ bad (faultAt (Breaks rule) o i) → i < length s
+broken-inside (done x) s rule o i asks is = absurd asks
+broken-inside (refuse q r) s rule o i asks is = absurd asks
+broken-inside (ask q go) s rule o i asks is =
+    elim (asked-bad q go s 0 _ is) [
+      | inl g ↦ let e = g .1 in absurd (let z : _≡_ {A = ℕ} 0 1 = cc in omega arith)
+      | inr g ↦ broken-within (go (getD s 0 0)) s 1 rule o i (omega arith) (omega (arith, g .0)) (g .1)
+    ]
+
+-- a shorter front, and a file that is cut off
+pub front-shorter : (m n : ℕ) (s t : List ℕ) → m ≤ n → SameFront n s t → SameFront m s t
+front-shorter m n s t h same = record {
+  here = omega (arith, same .here);
+  there = omega (arith, same .there);
+  same = sym (take-take m n s h) ∙ ap (λ xs. take m xs) (same .same) ∙ take-take m n t h;
+}
+
+pub front-cut : (n : ℕ) (s : List ℕ) → n ≤ length s → SameFront n s (take n s)
+front-cut n s h = record { here = h; there = simp length-take (omega arith); same = sym (take-take n n s (omega arith)) }
+
+pub bytes-cut : (n : ℕ) (s : List ℕ) → Bytes s → Bytes (take n s)
+bytes-cut n s bytes i =
+    elim (cases-lt i n) [
+      | inl under ↦ rw (getD-take n s i 0 under) (bytes i)
+      | inr past ↦
+        let long : length (take n s) ≤ i = simp length-take (omega arith) in
+        rw (getD-past (take n s) i 0 long) (omega arith)
     ]

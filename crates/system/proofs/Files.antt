@@ -67,10 +67,10 @@ module _ (n m : ℕ) where
   )
 
   -- rows one after another
-  follows-known : (As : List Automaton) (rs : List Row) → Each (Follows n m As) [] rs → All (λ r. r .owner < length As) rs
+  pub follows-known : (As : List Automaton) (rs : List Row) → Each (Follows n m As) [] rs → All (λ r. r .owner < length As) rs
   follows-known As rs h = each-all (λ r. r .owner < length As) [] rs (each-like (Follows n m As) (λ before r. r .owner < length As) (λ before r g. g .0) [] rs h)
 
-  follows-settled : (As : List Automaton) (rs : List Row) → Each (Follows n m As) [] rs → Settled rs
+  pub follows-settled : (As : List Automaton) (rs : List Row) → Each (Follows n m As) [] rs → Settled rs
   follows-settled As rs h = unfallen-settled [] rs (each-like (Follows n m As) Unfallen (λ before r g. g .1) [] rs h)
 
   follows-owned : (As : List Automaton) (rs : List Row) → Each (Follows n m As) [] rs → All (Owned (TransitionFormed n m) As) rs

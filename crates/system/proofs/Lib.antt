@@ -11,3 +11,4 @@ pub mod Starts
 pub mod HeadParts
 pub mod Updates
 pub mod Rows
+pub mod Verdicts

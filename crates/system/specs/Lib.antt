@@ -5,3 +5,5 @@ pub mod Scan
 pub mod Ranges
 pub mod Heads
 pub mod Found
+pub mod Shows
+pub mod Verdict

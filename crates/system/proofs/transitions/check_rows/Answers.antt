@@ -36,26 +36,28 @@ returns-in-Break-end c =
     let h = c .in-Continue-owner .ensures tt in
     rw (p .1, p .2) (record {
       says = λ As long stand.
-        let below : c .in-Continue-owner .owner < length As = omega (arith, h .within .1) in
-        record { agree = row-bad _ _ As _ _ _ _ _ _ _ (c .loop-k-test .taken) (c .row-after-origin .ensures) (c .loop-k .inv .0 As long stand) _ _ (owner-of _ _ _ _ _ _ (sym long) (h .says)) (c .in-Break-end .ensures tt .says _ (stand .begin _ below) .agree) };
+          let below : c .in-Continue-owner .owner < length As = omega (arith, h .within .1) in
+          record { agree = row-bad _ _ As _ _ _ _ _ _ _ (c .loop-k-test .taken) (c .row-after-origin .ensures) (c .loop-k .inv .0 As long stand) _ _ (owner-of _ _ _ _ _ _ (sym long) (h .says)) (c .in-Break-end .ensures tt .says _ (stand .begin _ below) .agree) };
       within = tt;
     })
 
 pub loop-k-again : need.loop-k-again
 loop-k-again c =
     let h = c .in-Continue-owner .ensures tt in
-    let g = c .in-Continue-end .ensures tt in
-    (λ As long stand.
-      let below : c .in-Continue-owner .owner < length As = omega (arith, h .within .1) in
-      row-read _ _ As _ _ _ _ _ _ _ (c .loop-k-test .taken) (c .row-after-origin .ensures) (c .loop-k .inv .0 As long stand) _ _ (owner-of _ _ _ _ _ _ (sym long) (h .says)) (h .within .2) (g .says _ (stand .begin _ below)),
-    g .within, c .loop-k .inv .2)
+    let g = c .in-Continue-end .ensures tt in (
+      λ As long stand.
+          let below : c .in-Continue-owner .owner < length As = omega (arith, h .within .1) in
+          row-read _ _ As _ _ _ _ _ _ _ (c .loop-k-test .taken) (c .row-after-origin .ensures) (c .loop-k .inv .0 As long stand) _ _ (owner-of _ _ _ _ _ _ (sym long) (h .says)) (h .within .2) (g .says _ (stand .begin _ below)),
+      g .within,
+      c .loop-k .inv .2,
+    )
 
 pub returns : need.returns
 returns c =
     let same : c .loop-k .k ≡ c .in-Continue-count .count = omega (arith, c .loop-k .kept .k-end) in
     record {
       says = λ As long stand.
-        let g = c .loop-k .inv .0 As long stand in
-        answers _ _ _ _ _ (going-all _ _ _ _ _ _ _ (c .loop-k-test .left) g) (g .count ∙ same, refl, refl);
+          let g = c .loop-k .inv .0 As long stand in
+          answers _ _ _ _ _ (going-all _ _ _ _ _ _ _ (c .loop-k-test .left) g) (g .count ∙ same, refl, refl);
       within = (c .loop-k .inv .2, c .loop-k .inv .1);
     }
