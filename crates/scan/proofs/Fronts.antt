@@ -168,6 +168,6 @@ bytes-cut n s bytes i =
     elim (cases-lt i n) [
       | inl under ↦ rw (getD-take n s i 0 under) (bytes i)
       | inr past ↦
-        let long : length (take n s) ≤ i = simp length-take (omega arith) in
-        rw (getD-past (take n s) i 0 long) (omega arith)
+          let long : length (take n s) ≤ i = simp length-take (omega arith) in
+          rw (getD-past (take n s) i 0 long) (omega arith)
     ]

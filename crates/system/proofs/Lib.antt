@@ -12,3 +12,4 @@ pub mod HeadParts
 pub mod Updates
 pub mod Rows
 pub mod Verdicts
+pub mod Whole

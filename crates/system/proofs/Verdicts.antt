@@ -41,15 +41,15 @@ file-asks : Asks file
 unfolding file events counted tested andThen
 file-asks = tt
 
-answer-bad : (s : List ℕ) (f : Fault) → run file s 0 ≡ bad f → answer s ≡ bad f
+pub answer-bad : (s : List ℕ) (f : Fault) → run file s 0 ≡ bad f → answer s ≡ bad f
 unfolding answer
 answer-bad s f is = ap (nothingFollows s) is
 
-answer-more : (s : List ℕ) (S : System) (end : ℕ) → run file s 0 ≡ good S end → end < length s → answer s ≡ bad (faultAt BytesFollow (origin Transitions (length (rows S))) end)
+pub answer-more : (s : List ℕ) (S : System) (end : ℕ) → run file s 0 ≡ good S end → end < length s → answer s ≡ bad (faultAt BytesFollow (origin Transitions (length (rows S))) end)
 unfolding answer
 answer-more s S end is more = ap (nothingFollows s) is ∙ cond-true _ _ _ (lt-ltb end (length s) more)
 
-answer-whole : (s : List ℕ) (S : System) (end : ℕ) → run file s 0 ≡ good S end → length s ≤ end → answer s ≡ good S end
+pub answer-whole : (s : List ℕ) (S : System) (end : ℕ) → run file s 0 ≡ good S end → length s ≤ end → answer s ≡ good S end
 unfolding answer
 answer-whole s S end is whole = ap (nothingFollows s) is ∙ cond-false _ _ _ (le-ltb end (length s) whole)
 
@@ -71,22 +71,26 @@ alike s t f is = (is, refused-none t f is)
 
 broken-says : (s : List ℕ) (rule : FileRule) (p : Place) → run file s 0 ≡ bad (File (Breaks rule) p) → Refusal-says s (File (Breaks rule) p)
 broken-says s rule p is =
-    let o : Origin = record { section = p .section; row = p .row } in
-    (broken-inside file s rule o (p .byte) file-asks is,
-    λ t same. alike s t (File (Breaks rule) p) (answer-bad t _ (broken-alike file s t 0 rule o (p .byte) is same)))
+    let o : Origin = record { section = p .section; row = p .row } in (
+      broken-inside file s rule o (p .byte) file-asks is,
+      λ t same. alike s t (File (Breaks rule) p) (answer-bad t _ (broken-alike file s t 0 rule o (p .byte) is same)),
+    )
 
 short-says : (s : List ℕ) (p : Place) → run file s 0 ≡ bad (File EndsTooSoon p) → Refusal-says s (File EndsTooSoon p)
 short-says s p is =
-    let o : Origin = record { section = p .section; row = p .row } in
-    (short-at-length file s 0 o (p .byte) (omega arith) is,
-    λ n few. let r = short-before file s 0 o (p .byte) n (omega arith) few is in (r .0, answer-bad (take n s) _ (r .1)))
+    let o : Origin = record { section = p .section; row = p .row } in (
+      short-at-length file s 0 o (p .byte) (omega arith) is,
+      λ n few. let r = short-before file s 0 o (p .byte) n (omega arith) few is in (r .0, answer-bad (take n s) _ (r .1)),
+    )
 
 follow-says : (s : List ℕ) → Bytes s → (S : System) (end : ℕ) → run file s 0 ≡ good S end → end < length s → Refusal-says s (faultAt BytesFollow (origin Transitions (length (rows S))) end)
 follow-says s bytes S end is more =
     let long : length (take end s) ≡ end = simp length-take (omega arith) in
-    let cut : answer (take end s) ≡ good S end = answer-whole (take end s) S end (good-alike file s (take end s) 0 S end (omega arith) is (front-cut end s (omega arith))) (omega arith) in
-    (more, (S, accepted-stands (take end s) (bytes-cut end s bytes) S end cut),
-    λ t same. alike s t _ (answer-more t S end (good-alike file s t 0 S end (omega arith) is (front-shorter end (end + 1) s t (omega arith) same)) (omega (arith, same .there))))
+    let cut : answer (take end s) ≡ good S end = answer-whole (take end s) S end (good-alike file s (take end s) 0 S end (omega arith) is (front-cut end s (omega arith))) (omega arith) in (
+      more,
+      (S, accepted-stands (take end s) (bytes-cut end s bytes) S end cut),
+      λ t same. alike s t _ (answer-more t S end (good-alike file s t 0 S end (omega arith) is (front-shorter end (end + 1) s t (omega arith) same)) (omega (arith, same .there))),
+    )
 
 pub refusal-holds : (s : List ℕ) → Bytes s → (f : Fault) → answer s ≡ bad f → Refusal-holds s f
 refusal-holds s bytes f is = record { none = refused-none s f is; says = go f (why s f is) }
