@@ -9,7 +9,7 @@ use Rattle.std.proofs.shelf.Lists.{getD-take, getD-past, take-take}
 use Rattle.std.proofs.shelf.Tests.{cases-lt}
 use Rattle.scan.specs.declared.refusal.Origin.{Origin}
 use Rattle.scan.specs.declared.refusal.Fault.{Fault}
-use Rattle.scan.specs.declared.refusal.Fault.the-variants.{File}
+use Rattle.scan.specs.declared.refusal.Fault.the-variants.{File, Buffer}
 use Rattle.scan.specs.declared.refusal.FileFault.{FileFault}
 use Rattle.scan.specs.declared.refusal.FileFault.the-variants.{EndsTooSoon, BytesFollow, Breaks}
 use Rattle.scan.specs.declared.refusal.FileRule.{FileRule}
@@ -30,6 +30,7 @@ front-byte n s t h k under = (
 -- the byte of a refusal
 abbrev byteOf : Fault → ℕ
 byteOf (File wrong place) = place .byte
+byteOf (Buffer needed) = 0
 
 abbrev outByte : {A : Type 0} → Out A → ℕ
 outByte (good a end) = 0
@@ -135,6 +136,17 @@ never-follows (ask q go) s at o i is =
     elim (asked-bad q go s at _ is) [
       | inl g ↦ let e = g .1 in absurd (let z : _≡_ {A = ℕ} 0 1 = cc in omega arith)
       | inr g ↦ never-follows (go (getD s at 0)) s (at + 1) o i (g .1)
+    ]
+
+-- a scanner knows of no buffer
+pub never-buffer : {A : Type 0} (p : Scan A) (s : List ℕ) (at needed : ℕ) → run p s at ≡ bad (Buffer needed) → ⊥
+unfolding run
+never-buffer (done x) s at needed is = absurd (let z : _≡_ {A = ℕ} 0 1 = cc in omega arith)
+never-buffer (refuse q rule) s at needed is = absurd (let z : _≡_ {A = ℕ} 0 1 = cc in omega arith)
+never-buffer (ask q go) s at needed is =
+    elim (asked-bad q go s at _ is) [
+      | inl g ↦ let e = g .1 in absurd (let z : _≡_ {A = ℕ} 0 1 = cc in omega arith)
+      | inr g ↦ never-buffer (go (getD s at 0)) s (at + 1) needed (g .1)
     ]
 
 -- a scanner that begins by asking for a byte

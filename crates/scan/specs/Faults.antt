@@ -5,7 +5,7 @@ use Rattle.scan.specs.declared.refusal.Section.{Section}
 use Rattle.scan.specs.declared.refusal.Section.the-variants.{Events, Variables, Automata, Transitions}
 use Rattle.scan.specs.declared.refusal.Origin.{Origin}
 use Rattle.scan.specs.declared.refusal.Fault.{Fault}
-use Rattle.scan.specs.declared.refusal.Fault.the-variants.{File}
+use Rattle.scan.specs.declared.refusal.Fault.the-variants.{File, Buffer}
 use Rattle.scan.specs.declared.refusal.FileFault.{FileFault}
 use Rattle.scan.specs.declared.refusal.FileFault.the-variants.{EndsTooSoon, BytesFollow, Breaks}
 use Rattle.scan.specs.declared.refusal.FileRule.{FileRule}
@@ -34,10 +34,12 @@ fileNumber (Breaks rule) = ruleNumber rule
 -- a refusal's number
 abbrev pub number : Fault → ℕ
 number (File wrong place) = fileNumber wrong
+number (Buffer needed) = 10
 
--- what a refusal carries: of a file, section, row and byte
+-- what a refusal carries: of a file, section, row and byte; of a buffer, the length needed
 abbrev pub carried : Fault → List ℕ
 carried (File wrong place) = sectionNumber (place .section) ∷ (place .row ∷ (place .byte ∷ []))
+carried (Buffer needed) = needed ∷ []
 
 -- the refusal at a byte of a section's row
 abbrev pub faultAt : FileFault → Origin → ℕ → Fault

@@ -8,6 +8,7 @@ ghost use Rattle.scan.specs.Faults.{faultAt};
 ghost use Rattle.scan.specs.Scan.{run, tested, counted, numbered, zeroOrOne, pair};
 ghost use Rattle.scan.specs.Says.{Says, Next};
 
+mod numbers;
 mod refusal;
 
 pub use refusal::Fault;

@@ -44,8 +44,10 @@ pub enum FileFault {
     Breaks(FileRule),
 }
 
-// A refusal. That of a file carries what is wrong and the place.
+// A refusal. That of a file carries what is wrong and the place; that of a buffer which is
+// shorter than the text (10) carries the length needed.
 #[derive(Clone, Copy)]
 pub enum Fault {
     File(FileFault, Place),
+    Buffer(usize),
 }

@@ -11,14 +11,14 @@ use Rattle.scan.specs.declared.refusal.Origin.{Origin}
 use Rattle.scan.specs.declared.refusal.Place.{Place}
 use Rattle.scan.specs.declared.refusal.Section.the-variants.{Transitions}
 use Rattle.scan.specs.declared.refusal.Fault.{Fault}
-use Rattle.scan.specs.declared.refusal.Fault.the-variants.{File}
+use Rattle.scan.specs.declared.refusal.Fault.the-variants.{File, Buffer}
 use Rattle.scan.specs.declared.refusal.FileFault.the-variants.{EndsTooSoon, BytesFollow, Breaks}
 use Rattle.scan.specs.declared.refusal.FileRule.{FileRule}
 use Rattle.scan.specs.Faults.{faultAt}
 use Rattle.scan.specs.Fronts.{SameFront}
 use Rattle.scan.specs.Scan.{Scan, Out, good, bad, run, andThen, counted, tested}
 use Rattle.scan.specs.Stands.{Bytes}
-use Rattle.scan.proofs.Fronts.{Asks, broken-inside, broken-alike, good-alike, good-forward, short-at-length, short-before, never-follows, front-shorter, front-cut, bytes-cut}
+use Rattle.scan.proofs.Fronts.{Asks, broken-inside, broken-alike, good-alike, good-forward, short-at-length, short-before, never-follows, never-buffer, front-shorter, front-cut, bytes-cut}
 use Rattle.system.specs.System.{System, rows}
 use Rattle.system.specs.Formed.{WellFormed}
 use Rattle.system.specs.Encode.{encode}
@@ -99,4 +99,5 @@ refusal-holds s bytes f is = record { none = refused-none s f is; says = go f (w
     go g (inr h) = subst (λ x. Refusal-says s x) (sym (h .4)) (follow-says s bytes (h .0) (h .1) (h .2) (h .3))
     go (File EndsTooSoon p) (inl h) = short-says s p h
     go (File BytesFollow p) (inl h) = absurd (never-follows file s 0 (record { section = p .section; row = p .row }) (p .byte) h)
+    go (Buffer needed) (inl h) = never-buffer file s 0 needed h
     go (File (Breaks rule) p) (inl h) = broken-says s rule p h

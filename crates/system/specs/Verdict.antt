@@ -6,7 +6,7 @@ use lib.ListN.{length, take}
 use Rattle.scan.specs.declared.refusal.Origin.{Origin}
 use Rattle.scan.specs.declared.refusal.Place.{Place}
 use Rattle.scan.specs.declared.refusal.Fault.{Fault}
-use Rattle.scan.specs.declared.refusal.Fault.the-variants.{File}
+use Rattle.scan.specs.declared.refusal.Fault.the-variants.{File, Buffer}
 use Rattle.scan.specs.declared.refusal.FileFault.{FileFault}
 use Rattle.scan.specs.declared.refusal.FileFault.the-variants.{EndsTooSoon, BytesFollow, Breaks}
 use Rattle.scan.specs.Faults.{faultAt}
@@ -38,6 +38,7 @@ Beginnings-short s = (n : ℕ) → n ≤ length s → (o : Origin) × (answer (t
 abbrev pub Refusal-says : List ℕ → Fault → Type 0
 Refusal-says s (File EndsTooSoon p) = (p .byte ≡ length s) × Beginnings-short s
 Refusal-says s (File BytesFollow p) = (p .byte < length s) × ((S : System) × Stands-for (take (p .byte) s) S) × Refused-alike s (p .byte) (File BytesFollow p)
+Refusal-says s (Buffer needed) = ⊥
 Refusal-says s (File (Breaks rule) p) = (p .byte < length s) × Refused-alike s (p .byte) (File (Breaks rule) p)
 
 pub record Refusal-holds (s : List ℕ) (f : Fault) : Type 0 where
