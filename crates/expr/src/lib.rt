@@ -22,7 +22,7 @@ pub use print::Names;
 pub use print::Numbered;
 pub use print::NumberedNames;
 
-pub fn guard_code(b: u8) -> GuardCode
+fn guard_code(b: u8) -> GuardCode
     ensures { λ r. ⌜ r ≡ guardCode b ⌝ }
 {
     match b {
@@ -39,7 +39,7 @@ pub fn guard_code(b: u8) -> GuardCode
     }
 }
 
-pub fn term_code(b: u8) -> TermCode
+fn term_code(b: u8) -> TermCode
     ensures { λ r. ⌜ r ≡ termCode b ⌝ }
 {
     match b {
