@@ -2,6 +2,16 @@
 use crate::updates::Updates;
 use expr::Guard;
 use expr::Term;
+use system::Role;
+
+// An automaton without its transitions. A location's mark is 1, or 0 where it has none.
+#[derive(Clone, Copy)]
+pub struct Head<'a> {
+    pub role: Role,
+    pub start: u8,
+    pub marks: &'a [u8],
+    pub alphabet: &'a [u8],
+}
 
 // A transition and the number of its automaton.
 #[derive(Clone, Copy)]
