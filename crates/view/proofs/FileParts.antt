@@ -1,7 +1,7 @@
 -- The parts of a system in its file, by their numbers.
 use Prim.Native.Nat.{ℕ, _+_, _*_, _<_, _≤_}
 use mathlib.Core.Path.{_≡_, refl, sym, ap, subst, _∙_}
-use mathlib.Core.List.{List, [], _∷_, _++_}
+use mathlib.Core.List.{List, [], _++_}
 use mathlib.Core.Logic.{∥∥₁-elim}
 use native.Mathlib.Bridge.{le-prop}
 use native.Mathlib.Omega.{arith}

@@ -1,12 +1,11 @@
 -- The rows of a well-formed system have well-formed expressions.
 use Prim.Native.Nat.{ℕ, zero, suc, _<_, _≤_}
-use mathlib.Core.Path.{_≡_}
 use mathlib.Core.List.{List, [], _∷_, _++_, map}
 use native.Mathlib.Omega.{arith}
 use lib.IntN.{ℤ}
 use lib.ListN.{length, getD}
 use Rattle.expr.specs.Expr.{Kind, Expr, truth, negate, join, test, literal, variable, sum, branch, Leaves, Formed}
-use Rattle.system.specs.System.{Transition, Automaton, System, Row, rowsFrom, rows}
+use Rattle.system.specs.System.{Transition, Automaton, System, rowsFrom, rows}
 use Rattle.system.specs.Formed.{All, UpdateFormed, TransitionFormed, AutomatonFormed, WellFormed}
 use Rattle.view.specs.Walk.{UpdateFine, RowFine}
 

@@ -1,8 +1,8 @@
 -- The parts of a transition's row, from where it begins.
-use Prim.Native.Nat.{ℕ, _+_, _-_, _<_, _≤_}
+use Prim.Native.Nat.{ℕ, _+_, _-_, _<_}
 use mathlib.Core.Path.{_≡_, refl, sym, subst}
 use mathlib.Core.Bool.{true}
-use mathlib.Core.List.{List, [], _∷_, _++_}
+use mathlib.Core.List.{List, [], _∷_}
 use mathlib.Core.Logic.{∥∥₁-elim, ∥∥₁-map}
 use native.Mathlib.Bridge.{le-prop}
 use native.Mathlib.Omega.{arith}
