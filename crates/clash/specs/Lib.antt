@@ -1,0 +1,4 @@
+pub mod Carries
+pub mod Wishes
+pub mod Rules
+pub mod Orders
