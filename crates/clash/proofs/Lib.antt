@@ -1,1 +1,4 @@
 pub mod Shapes
+pub mod Plain
+pub mod Folds
+pub mod Laws

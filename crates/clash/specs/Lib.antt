@@ -2,3 +2,4 @@ pub mod Carries
 pub mod Wishes
 pub mod Rules
 pub mod Orders
+pub mod EqualValues

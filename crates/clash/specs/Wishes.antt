@@ -1,4 +1,5 @@
 -- The three wishes, and the number of a status.
+use mathlib.Core.Bool.{Bool, true, false}
 use mathlib.Core.Path.{refl}
 use lib.IntN.{ℤ, pos}
 use Rattle.std.proofs.shelf.Tests.{true≢false}
@@ -19,3 +20,8 @@ abbrev pub statusNumber : Status → ℤ
 statusNumber Nothing = pos 0
 statusNumber Single = pos 1
 statusNumber Clash = pos 2
+
+abbrev pub isClash : Status → Bool
+isClash Nothing = false
+isClash Single = false
+isClash Clash = true

@@ -1,0 +1,57 @@
+// A clash rule joins the wishes for a variable and settles what they come to.
+ghost use mathlib.Core.Path.{_≡_};
+ghost use Rattle.expr.specs.Coded.{Coded};
+ghost use Rattle.clash.specs.Orders.{Total};
+ghost use Rattle.clash.specs.Rules.{ClashRule, Lawful};
+ghost use Rattle.clash.specs.Wishes.{none};
+use crate::wish::Wish;
+use expr::Guard;
+use expr::Term;
+
+// The next value, and whether the step is permitted.
+#[derive(Clone, Copy)]
+pub struct Settled {
+    pub value: i32,
+    pub permitted: bool,
+}
+
+pub trait Rule {
+    // From 1 to 999.
+    const NUMBER: u16;
+
+    ghost rule: { ClashRule };
+
+    law lawful: { Lawful rule };
+
+    fn code() -> u16
+        ensures { λ r. ⌜ r ≡ rule .number ⌝ };
+
+    fn join(a: Wish, b: Wish) -> Wish
+        ensures { λ r. ⌜ r ≡ rule .joins a b ⌝ };
+
+    fn settle(w: Wish, old: i32) -> Settled
+        ensures { λ r. ⌜ r .value ≡ rule .settles w old ⌝ ∗ ⌜ r .permitted ≡ rule .permits w old ⌝ };
+
+    fn joined_status<'a>() -> Term<'a>
+        ensures { λ r. ⌜ Coded (now (r .code)) (rule .joined-status) ⌝ };
+
+    fn joined_value<'a>() -> Term<'a>
+        ensures { λ r. ⌜ Coded (now (r .code)) (rule .joined-value) ⌝ };
+
+    fn settled_value<'a>() -> Term<'a>
+        ensures { λ r. ⌜ Coded (now (r .code)) (rule .settled-value) ⌝ };
+
+    fn permission<'a>() -> Guard<'a>
+        ensures { λ r. ⌜ Coded (now (r .code)) (rule .permission) ⌝ };
+}
+
+// What the wishes come to, in any order and any bracketing.
+pub fn join_all<R: Rule>(wishes: &[Wish]) -> Wish
+    ensures { λ r. ⌜ Total none (R·Rule .rule .joins) (now (wishes .entry)) r ⌝ }
+{
+    let mut joined = Wish::none();
+    for w in wishes {
+        joined = R::join(joined, *w);
+    }
+    joined
+}
