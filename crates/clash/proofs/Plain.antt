@@ -1,7 +1,7 @@
--- Whether an expression is well formed and plain, by computing.
+-- Whether an expression is plain, by computing.
 use Prim.Native.Nat.{ℕ, _<_, _≤_, _^_}
 use mathlib.Core.Bool.{Bool, true, false, _&&_}
-use mathlib.Core.Path.{_≡_, refl}
+use mathlib.Core.Path.{_≡_}
 use lib.Dec.{ltb, leb}
 use lib.IntN.{ℤ}
 use lib.ListN.{length}
@@ -9,7 +9,6 @@ use mir.Syntax.{w16}
 use lib.Signed.{mag}
 use mir.Val.{SFits}
 use Rattle.std.proofs.shelf.Tests.{and-parts, false≢true, ltb-true, leb-true}
-use Rattle.expr.specs.Coded.{Coded}
 use Rattle.expr.specs.Expr.{Kind, guard, term, Expr, truth, negate, join, test, literal, variable, sum, branch, bytesOf, depth, Leaves, Formed}
 use Rattle.clash.specs.Rules.{Sumless, Plain}
 
@@ -58,7 +57,3 @@ module _ (n : ℕ) where
         formed = record { short = leb-true (length (bytesOf e)) 255 (q .0); shallow = leb-true (depth e) 16 (q .1); leaves = x .0 };
         sumless = x .1;
       }
-
--- the bytes of an expression that passes are its code
-pub coded : {k : Kind} (e : Expr k) → checks 256 e ≡ true → Coded (bytesOf e) e
-coded e h = record { bytes = refl; formed = plain 256 e h .formed }

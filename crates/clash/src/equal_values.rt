@@ -1,10 +1,9 @@
 // Equal values join to that value, unequal ones clash, and a clash stays one.
 ghost use mathlib.Core.Path.{_≡_};
-ghost use Rattle.expr.specs.Coded.{Coded};
+ghost use Rattle.expr.specs.Expr.{bytesOf};
 ghost use Rattle.clash.specs.EqualValues.{joinsEqual, settlesOwn, equalStatus, equalValue, ownValue};
 use crate::wish::Status;
 use crate::wish::Wish;
-use expr::Term;
 
 // (case (a = 0) : w; TRUE :
 // (case (w = 0) : a; TRUE :
@@ -44,24 +43,20 @@ pub fn next_value(w: Wish, old: i32) -> i32
     }
 }
 
-pub fn joined_status<'a>() -> Term<'a>
-    ensures { λ r. ⌜ Coded (now (r .code)) equalStatus ⌝ }
+pub fn joined_status<'a>() -> &'a [u8]
+    ensures { λ r. ⌜ now r ≡ bytesOf equalStatus ⌝ }
 {
-    Term {
-        code: JOINED_STATUS,
-    }
+    JOINED_STATUS
 }
 
-pub fn joined_value<'a>() -> Term<'a>
-    ensures { λ r. ⌜ Coded (now (r .code)) equalValue ⌝ }
+pub fn joined_value<'a>() -> &'a [u8]
+    ensures { λ r. ⌜ now r ≡ bytesOf equalValue ⌝ }
 {
-    Term { code: JOINED_VALUE }
+    JOINED_VALUE
 }
 
-pub fn settled_value<'a>() -> Term<'a>
-    ensures { λ r. ⌜ Coded (now (r .code)) ownValue ⌝ }
+pub fn settled_value<'a>() -> &'a [u8]
+    ensures { λ r. ⌜ now r ≡ bytesOf ownValue ⌝ }
 {
-    Term {
-        code: SETTLED_VALUE,
-    }
+    SETTLED_VALUE
 }

@@ -10,8 +10,6 @@ use crate::rule::Rule;
 use crate::rule::Settled;
 use crate::wish::Status;
 use crate::wish::Wish;
-use expr::Guard;
-use expr::Term;
 
 // (s != 2)
 const PERMISSION: &[u8] = b"\x07\x11\x00\x10\x00\x02";
@@ -38,19 +36,19 @@ pub impl Rule for ForbidClash as ForbidClashRule {
         }
     }
 
-    fn joined_status<'a>() -> Term<'a> {
+    fn joined_status<'a>() -> &'a [u8] {
         equal_values::joined_status()
     }
 
-    fn joined_value<'a>() -> Term<'a> {
+    fn joined_value<'a>() -> &'a [u8] {
         equal_values::joined_value()
     }
 
-    fn settled_value<'a>() -> Term<'a> {
+    fn settled_value<'a>() -> &'a [u8] {
         equal_values::settled_value()
     }
 
-    fn permission<'a>() -> Guard<'a> {
-        Guard { code: PERMISSION }
+    fn permission<'a>() -> &'a [u8] {
+        PERMISSION
     }
 }

@@ -6,8 +6,6 @@ use crate::equal_values;
 use crate::rule::Rule;
 use crate::rule::Settled;
 use crate::wish::Wish;
-use expr::Guard;
-use expr::Term;
 
 // TRUE
 const PERMISSION: &[u8] = b"\x01";
@@ -34,19 +32,19 @@ pub impl Rule for KeepOnClash as KeepOnClashRule {
         }
     }
 
-    fn joined_status<'a>() -> Term<'a> {
+    fn joined_status<'a>() -> &'a [u8] {
         equal_values::joined_status()
     }
 
-    fn joined_value<'a>() -> Term<'a> {
+    fn joined_value<'a>() -> &'a [u8] {
         equal_values::joined_value()
     }
 
-    fn settled_value<'a>() -> Term<'a> {
+    fn settled_value<'a>() -> &'a [u8] {
         equal_values::settled_value()
     }
 
-    fn permission<'a>() -> Guard<'a> {
-        Guard { code: PERMISSION }
+    fn permission<'a>() -> &'a [u8] {
+        PERMISSION
     }
 }

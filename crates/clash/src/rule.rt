@@ -1,12 +1,10 @@
 // A clash rule joins the wishes for a variable and settles what they come to.
 ghost use mathlib.Core.Path.{_≡_};
-ghost use Rattle.expr.specs.Coded.{Coded};
+ghost use Rattle.expr.specs.Expr.{bytesOf};
 ghost use Rattle.clash.specs.Orders.{Total};
 ghost use Rattle.clash.specs.Rules.{ClashRule, Lawful};
 ghost use Rattle.clash.specs.Wishes.{none};
 use crate::wish::Wish;
-use expr::Guard;
-use expr::Term;
 
 // The next value, and whether the step is permitted.
 #[derive(Clone, Copy)]
@@ -32,17 +30,17 @@ pub trait Rule {
     fn settle(w: Wish, old: i32) -> Settled
         ensures { λ r. ⌜ r .value ≡ rule .settles w old ⌝ ∗ ⌜ r .permitted ≡ rule .permits w old ⌝ };
 
-    fn joined_status<'a>() -> Term<'a>
-        ensures { λ r. ⌜ Coded (now (r .code)) (rule .joined-status) ⌝ };
+    fn joined_status<'a>() -> &'a [u8]
+        ensures { λ r. ⌜ now r ≡ bytesOf (rule .joined-status) ⌝ };
 
-    fn joined_value<'a>() -> Term<'a>
-        ensures { λ r. ⌜ Coded (now (r .code)) (rule .joined-value) ⌝ };
+    fn joined_value<'a>() -> &'a [u8]
+        ensures { λ r. ⌜ now r ≡ bytesOf (rule .joined-value) ⌝ };
 
-    fn settled_value<'a>() -> Term<'a>
-        ensures { λ r. ⌜ Coded (now (r .code)) (rule .settled-value) ⌝ };
+    fn settled_value<'a>() -> &'a [u8]
+        ensures { λ r. ⌜ now r ≡ bytesOf (rule .settled-value) ⌝ };
 
-    fn permission<'a>() -> Guard<'a>
-        ensures { λ r. ⌜ Coded (now (r .code)) (rule .permission) ⌝ };
+    fn permission<'a>() -> &'a [u8]
+        ensures { λ r. ⌜ now r ≡ bytesOf (rule .permission) ⌝ };
 }
 
 // What the wishes come to, in any order and any bracketing.

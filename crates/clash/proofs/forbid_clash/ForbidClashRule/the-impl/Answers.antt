@@ -6,7 +6,7 @@ use Rattle.expr.specs.Expr.{eval, test, variable, literal}
 use Rattle.expr.specs.declared.code.Order.the-variants.{Ne}
 use Rattle.clash.specs.Rules.{ofWish}
 use Rattle.clash.specs.Wishes.{Wish, isClash}
-use Rattle.clash.proofs.Laws.{lawful}
+use Rattle.clash.proofs.EqualValues.{lawful}
 use Rattle.clash.proofs.Plain.{plain}
 use Rattle.clash.proofs.Shapes.{Shape, is-none, is-single, is-clash}
 use Rattle.clash.proofs.forbid_clash.ForbidClashRule.the-impl.Needs as need

@@ -2,7 +2,7 @@ use mathlib.Core.Bool.{true}
 use mathlib.Core.Path.{refl}
 use lib.Dec.{lit≤}
 use Rattle.expr.specs.Expr.{truth}
-use Rattle.clash.proofs.Laws.{lawful}
+use Rattle.clash.proofs.EqualValues.{lawful}
 use Rattle.clash.proofs.Plain.{plain}
 use Rattle.clash.proofs.keep_on_clash.KeepOnClashRule.the-impl.Needs as need
 
