@@ -47,7 +47,7 @@ pub record Plain (n : ℕ) {k : Kind} (e : Expr k) : Type 0 where
   pub formed : Formed n e
   pub sumless : Sumless e
 
--- a joined value is 0 or one of the two values
+-- what each rule keeps: its number's range, the laws of joining and of settling, and what its expressions say
 pub record Lawful (rule : ClashRule) : Type 0 where
   pub number-low : 1 ≤ rule .number
   pub number-high : rule .number ≤ 999

@@ -13,8 +13,9 @@ pub struct Settled {
     pub permitted: bool,
 }
 
+// What it answers is `rule`, which keeps the laws.
 pub trait Rule {
-    // From 1 to 999.
+    // From 1 to 999, another one for each rule.
     const NUMBER: u16;
 
     ghost rule: { ClashRule };
@@ -30,15 +31,19 @@ pub trait Rule {
     fn settle(w: Wish, old: i32) -> Settled
         ensures { λ r. ⌜ r .value ≡ rule .settles w old ⌝ ∗ ⌜ r .permitted ≡ rule .permits w old ⌝ };
 
+    // The bytes of a term over status and value of the first wish, then of the second.
     fn joined_status<'a>() -> &'a [u8]
         ensures { λ r. ⌜ now r ≡ bytesOf (rule .joined-status) ⌝ };
 
+    // The bytes of a term over the same variables.
     fn joined_value<'a>() -> &'a [u8]
         ensures { λ r. ⌜ now r ≡ bytesOf (rule .joined-value) ⌝ };
 
+    // The bytes of a term over status, value and old value.
     fn settled_value<'a>() -> &'a [u8]
         ensures { λ r. ⌜ now r ≡ bytesOf (rule .settled-value) ⌝ };
 
+    // The bytes of a guard over the same variables.
     fn permission<'a>() -> &'a [u8]
         ensures { λ r. ⌜ now r ≡ bytesOf (rule .permission) ⌝ };
 }
