@@ -1,0 +1,5 @@
+pub mod Shapes
+pub mod Plain
+pub mod Coded
+pub mod Folds
+pub mod EqualValues
