@@ -1,15 +1,14 @@
 -- Whether an expression is plain, by computing.
-use Prim.Native.Nat.{ℕ, _<_, _≤_, _^_}
+use Prim.Native.Nat.{ℕ, _<_, _^_}
 use mathlib.Core.Bool.{Bool, true, false, _&&_}
 use mathlib.Core.Path.{_≡_}
 use lib.Dec.{ltb, leb}
-use lib.IntN.{ℤ}
 use lib.ListN.{length}
 use mir.Syntax.{w16}
 use lib.Signed.{mag}
 use mir.Val.{SFits}
 use Rattle.std.proofs.shelf.Tests.{and-parts, false≢true, ltb-true, leb-true}
-use Rattle.expr.specs.Expr.{Kind, guard, term, Expr, truth, negate, join, test, literal, variable, sum, branch, bytesOf, depth, Leaves, Formed}
+use Rattle.expr.specs.Expr.{Kind, Expr, truth, negate, join, test, literal, variable, sum, branch, bytesOf, depth, Leaves}
 use Rattle.clash.specs.Rules.{Sumless, Plain}
 
 -- only variables below n, values of 16 bits, and no sum

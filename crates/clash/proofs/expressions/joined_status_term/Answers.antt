@@ -1,4 +1,4 @@
-use Rattle.clash.proofs.Coded.{of-pair, of-wish, some}
+use Rattle.clash.proofs.Coded.{of-pair, some}
 use Rattle.clash.proofs.expressions.joined_status_term.Needs as need
 
 pub ghost-result : need.ghost-result

@@ -1,4 +1,4 @@
-use Rattle.clash.proofs.Coded.{of-pair, of-wish, some}
+use Rattle.clash.proofs.Coded.{of-wish, some}
 use Rattle.clash.proofs.expressions.permission_guard.Needs as need
 
 pub ghost-result : need.ghost-result

@@ -1,4 +1,4 @@
-use Rattle.clash.proofs.Coded.{of-pair, of-wish, some}
+use Rattle.clash.proofs.Coded.{of-wish, some}
 use Rattle.clash.proofs.expressions.settled_value_term.Needs as need
 
 pub ghost-result : need.ghost-result
