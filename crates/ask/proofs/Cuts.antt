@@ -1,12 +1,12 @@
 -- A line cut at its first space.
-use Prim.Native.Nat.{ℕ, _+_, _-_, _<_, _≤_}
-use mathlib.Core.List.{List, [], _∷_, _++_, append-nil}
-use mathlib.Core.Path.{_≡_, refl, sym, ap, subst, _∙_}
+use Prim.Native.Nat.{ℕ, _+_, _<_, _≤_}
+use mathlib.Core.List.{List, _∷_, _++_}
+use mathlib.Core.Path.{_≡_, sym, ap, _∙_}
 use native.Mathlib.Omega.{arith}
 use lib.ListN.{length, take, drop, getD}
 use Rattle.std.proofs.shelf.Lists.{take-append-drop, drop-more, drop-all, getD-take, length-take}
 use Rattle.std.specs.declared.option.Option.the-variants.{Some, None}
-use Rattle.ask.specs.Words.{Begins, behind}
+use Rattle.ask.specs.Words.{Begins}
 
 module _ (line : List ℕ) (n : ℕ) (within : n ≤ length line) (before : (k : ℕ) → k < n → getD line k 0 ≡ 32 → ⊥) where
   spaceless : (k : ℕ) → k < length (take n line) → getD (take n line) k 0 ≡ 32 → ⊥

@@ -2,10 +2,10 @@
 use mathlib.Core.Path.{_≡_, refl, sym, ap, _∙_}
 use mathlib.Core.Bool.{true}
 use mathlib.Core.List.{List, [], _∷_, _++_, append-assoc}
-use Prim.Native.Nat.{ℕ, suc, _+_, _-_, _^_, _<_, _≤_}
+use Prim.Native.Nat.{ℕ, _+_, _-_, _^_, _<_, _≤_}
 use native.Mathlib.Nat.{add-zero, zero-add}
 use native.Mathlib.Omega.{arith}
-use lib.Dec.{ltb, leb}
+use lib.Dec.{leb}
 use lib.IntN.{ℤ, pos, negsuc, natAbs}
 use lib.Chars.{codes}
 use lib.Signed.{ltZ}
@@ -14,7 +14,7 @@ use Rattle.std.specs.Iters.{folded}
 use Rattle.std.specs.Written.{decimal}
 use Rattle.std.proofs.shelf.Lists.{take-more-set, drop-set-lt}
 use Rattle.std.proofs.shelf.Signed.{ints}
-use Rattle.std.proofs.shelf.Tests.{le-leb, lt-ltb, cond-true, both-ways}
+use Rattle.std.proofs.shelf.Tests.{le-leb, lt-ltb, cond-true}
 use Rattle.bytes.specs.declared.Count.{Count}
 use Rattle.bytes.specs.declared.Filler.{Filler}
 use Rattle.std.specs.declared.result.Result.the-variants.{Ok, Err}

@@ -1,10 +1,10 @@
 -- An expression behind its length: what its scanner says, from what it says of the expression.
 use Prim.Native.Nat.{ℕ, zero, suc, _+_, _-_, _<_, _≤_}
-use mathlib.Core.Path.{_≡_, refl, sym, ap, subst, _∙_}
+use mathlib.Core.Path.{_≡_, sym, ap, subst, _∙_}
 use mathlib.Core.List.{List}
-use mathlib.Core.Logic.{_⊎_, inl, inr}
+use mathlib.Core.Logic.{inl, inr}
 use native.Mathlib.Omega.{arith}
-use lib.ListN.{length, getD}
+use lib.ListN.{length}
 use Rattle.std.proofs.shelf.Tests.{cases-lt}
 use Rattle.std.specs.Vec.{made}
 use Rattle.std.specs.declared.result.Result.{Result}
@@ -14,10 +14,10 @@ use Rattle.scan.specs.declared.refusal.Fault.{Fault}
 use Rattle.scan.specs.declared.refusal.FileFault.the-variants.{EndsTooSoon, Breaks}
 use Rattle.scan.specs.declared.refusal.FileRule.the-variants.{Expression}
 use Rattle.scan.specs.Faults.{faultAt}
-use Rattle.scan.specs.Scan.{Scan, done, refuse, ask, Out, good, bad, run}
+use Rattle.scan.specs.Scan.{bad, run}
 use Rattle.scan.specs.Says.{Says}
 use Rattle.scan.proofs.Runs.{run-done, run-refuse, run-ask, run-short, run-then, run-fails, answers}
-use Rattle.expr.specs.Expr.{Kind, Expr}
+use Rattle.expr.specs.Expr.{Kind}
 use Rattle.expr.specs.Scan.{Part, parse, leftover, finished, ofLength, sized}
 use Rattle.expr.specs.Ends.{Until, Lengthy, Ended, At}
 

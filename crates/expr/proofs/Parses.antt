@@ -1,25 +1,22 @@
 -- The scanner of expressions reads each well-formed expression from its bytes, and nothing else.
-use Prim.Native.Nat.{ℕ, zero, suc, max, _+_, _-_, _*_, _/_, _%_, _^_, _<_, _≤_}
+use Prim.Native.Nat.{ℕ, zero, suc, max, _+_, _-_, _*_, _/_, _%_, _<_, _≤_}
 use mathlib.Core.Path.{_≡_, refl, sym, ap, subst, _∙_}
 use mathlib.Core.Bool.{Bool, true, false, cond}
 use mathlib.Core.List.{List, [], _∷_, _++_}
-use mathlib.Core.Logic.{_⊎_, inl, inr}
+use mathlib.Core.Logic.{inl, inr}
 use native.Mathlib.Omega.{arith}
 use lib.Dec.{ltb}
-use lib.IntN.{ℤ}
 use lib.ListN.{length, getD, length-append}
 use mir.Syntax.{w16}
 use mir.Val.{toZ, ofZ, SFits}
-use Rattle.std.proofs.shelf.Signed.{toZ-ofZ, ofZ-toZ, ints}
+use Rattle.std.proofs.shelf.Signed.{toZ-ofZ, ofZ-toZ}
 use Rattle.std.proofs.shelf.Tests.{lt-ltb, le-ltb, ltb-true, cases-bool, cases-lt}
 use Rattle.std.proofs.shelf.Ways.{tells}
 use Rattle.scan.specs.declared.refusal.Origin.{Origin}
-use Rattle.scan.specs.declared.refusal.Fault.{Fault}
-use Rattle.scan.specs.declared.refusal.FileRule.the-variants.{KnownNumber, Expression}
-use Rattle.scan.specs.Faults.{faultAt}
-use Rattle.scan.specs.Scan.{Scan, done, refuse, ask, andThen, Out, good, bad, run}
-use Rattle.scan.specs.Stands.{Stands, Bytes, twoBytes}
-use Rattle.scan.proofs.Runs.{run-done, run-refuse, run-ask, run-then}
+use Rattle.scan.specs.declared.refusal.FileRule.the-variants.{KnownNumber}
+use Rattle.scan.specs.Scan.{Scan, done, refuse, Out, good, run}
+use Rattle.scan.specs.Stands.{Stands, Bytes}
+use Rattle.scan.proofs.Runs.{run-done, run-ask, run-then}
 use Rattle.scan.proofs.Codecs.{both-read, asked-read}
 use Rattle.scan.proofs.Standing.{stands-none, stands-append, stands-split, stands-one, stands-head}
 use Rattle.expr.specs.declared.code.Joint.{Joint}
@@ -33,7 +30,7 @@ use Rattle.expr.specs.declared.code.GuardCode.the-variants as G
 use Rattle.expr.specs.declared.code.TermCode.{TermCode}
 use Rattle.expr.specs.declared.code.TermCode.the-variants as K
 use Rattle.expr.specs.Codes.{truthByte, jointByte, orderByte, signByte, guardCode, termCode}
-use Rattle.expr.specs.Expr.{Kind, guard, term, Expr, truth, negate, join, test, literal, variable, sum, branch, valueBytes, bytesOf, depth, Leaves}
+use Rattle.expr.specs.Expr.{Kind, guard, term, Expr, truth, negate, join, test, literal, variable, sum, branch, bytesOf, depth, Leaves}
 use Rattle.expr.specs.Scan.{Part, nextByte, Reader, one, two, guardBy, termBy, parse}
 
 -- the byte that a code stands for

@@ -1,25 +1,21 @@
 -- What the scanner of an expression says, from what it says of the parts.
-use Prim.Native.Nat.{ℕ, zero, suc, _+_, _-_, _*_, _<_, _≤_}
+use Prim.Native.Nat.{ℕ, zero, suc, _+_, _-_, _<_, _≤_}
 use mathlib.Core.Path.{_≡_, refl, sym, ap, subst, _∙_}
-use mathlib.Core.Bool.{Bool, true, false, cond}
-use mathlib.Core.List.{List, [], _∷_}
-use mathlib.Core.Logic.{_⊎_, inl, inr}
+use mathlib.Core.Bool.{Bool}
+use mathlib.Core.List.{List}
+use mathlib.Core.Logic.{inl, inr}
 use native.Mathlib.Omega.{arith}
-use lib.Dec.{ltb}
 use lib.ListN.{length, getD}
-use mir.Syntax.{w16}
-use mir.Val.{toZ}
 use Rattle.std.proofs.shelf.Tests.{lt-ltb, le-ltb}
 use Rattle.std.specs.Vec.{made}
 use Rattle.std.specs.declared.result.Result.{Result}
 use Rattle.std.specs.declared.result.Result.the-variants.{Ok, Err}
 use Rattle.scan.specs.declared.refusal.Origin.{Origin}
 use Rattle.scan.specs.declared.refusal.Fault.{Fault}
-use Rattle.scan.specs.declared.refusal.FileFault.the-variants.{EndsTooSoon, Breaks}
-use Rattle.scan.specs.declared.refusal.FileRule.{FileRule}
+use Rattle.scan.specs.declared.refusal.FileFault.the-variants.{Breaks}
 use Rattle.scan.specs.declared.refusal.FileRule.the-variants.{KnownNumber, Expression}
 use Rattle.scan.specs.Faults.{faultAt}
-use Rattle.scan.specs.Scan.{Scan, done, refuse, ask, andThen, Out, good, bad, run}
+use Rattle.scan.specs.Scan.{Scan, andThen, Out, bad, run}
 use Rattle.scan.specs.Says.{Says}
 use Rattle.scan.proofs.Runs.{run-done, run-refuse, ask-goes, ask-ends, run-then, run-fails, answers, says-by}
 use Rattle.expr.specs.declared.code.Joint.{Joint}
@@ -30,7 +26,7 @@ use Rattle.expr.specs.declared.code.TermCode.{TermCode}
 use Rattle.expr.specs.declared.code.GuardCode.the-variants as G
 use Rattle.expr.specs.declared.code.TermCode.the-variants as K
 use Rattle.expr.specs.Codes.{guardCode, termCode}
-use Rattle.expr.specs.Expr.{Kind, guard, term, Expr, negate, join, test, literal, variable, sum, branch}
+use Rattle.expr.specs.Expr.{Kind, guard, term, Expr, negate, join, test, variable, sum, branch}
 use Rattle.expr.specs.Scan.{Part, nextByte, Reader, one, two, guardBy, termBy, parse}
 use Rattle.expr.specs.Ends.{Stops, Until}
 

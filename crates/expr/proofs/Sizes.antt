@@ -1,23 +1,21 @@
 -- An expression behind its length is read exactly where it is well formed.
 use Prim.Native.Nat.{ℕ, zero, suc, _+_, _-_, _<_, _≤_}
-use mathlib.Core.Path.{_≡_, refl, sym, ap, subst, _∙_}
-use mathlib.Core.List.{List, [], _∷_, _++_}
+use mathlib.Core.Path.{_≡_, refl, ap, subst, _∙_}
+use mathlib.Core.List.{List, [], _∷_}
 use native.Mathlib.Omega.{arith}
 use lib.ListN.{length, getD}
 use mir.Syntax.{w16}
 use mir.Val.{SFits}
 use Rattle.scan.specs.declared.refusal.Origin.{Origin}
-use Rattle.scan.specs.declared.refusal.Fault.{Fault}
-use Rattle.scan.specs.Faults.{faultAt}
-use Rattle.scan.specs.Scan.{Scan, done, refuse, ask, andThen, Out, good, bad, run}
+use Rattle.scan.specs.Scan.{good, run}
 use Rattle.scan.specs.Stands.{Stands, Bytes}
 use Rattle.scan.proofs.Runs.{run-done, run-ask, run-then}
 use Rattle.scan.proofs.Codecs.{Read, Codec, both-read, asked-read}
 use Rattle.scan.proofs.Standing.{stands-append, stands-one, stands-head}
-use Rattle.expr.specs.Expr.{Kind, guard, term, Expr, truth, negate, join, test, literal, variable, sum, branch, bytesOf, depth, Leaves, Formed}
+use Rattle.expr.specs.Expr.{Kind, Expr, truth, negate, join, test, literal, variable, sum, branch, bytesOf, depth, Leaves, Formed}
 use Rattle.expr.specs.Scan.{Part, parse, leftover, finished, ofLength, sized}
 use Rattle.expr.specs.Sized.{sizedBytes}
-use Rattle.expr.proofs.Parses.{Parsed, sound, complete}
+use Rattle.expr.proofs.Parses.{sound, complete}
 
 -- no expression is without bytes
 pub some-bytes : {k : Kind} (e : Expr k) → 0 < length (bytesOf e)

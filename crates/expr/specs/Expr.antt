@@ -1,6 +1,6 @@
 -- Guards and terms: their tree, byte code, depth, value, and which are well formed.
 use Prim.Native.Nat.{ℕ, suc, max, _<_, _≤_}
-use mathlib.Core.Bool.{Bool, true, false, not, _&&_, _||_, cond}
+use mathlib.Core.Bool.{Bool, not, _&&_, _||_, cond}
 use mathlib.Core.List.{List, [], _∷_, _++_}
 use lib.IntN.{ℤ, _+ℤ_, _-ℤ_}
 use lib.ListN.{length}

@@ -1,9 +1,8 @@
 -- The text form of guards and terms, under names for their variables.
-use Prim.Native.Nat.{ℕ, suc}
+use Prim.Native.Nat.{ℕ}
 use mathlib.Core.Bool.{Bool, true, false}
-use mathlib.Core.List.{List, [], _∷_, _++_}
+use mathlib.Core.List.{List, _++_}
 use lib.Chars.{codes}
-use lib.IntN.{ℤ, pos, negsuc}
 use Rattle.bytes.specs.Text.{valueText}
 use Rattle.expr.specs.declared.code.Joint.{Joint}
 use Rattle.expr.specs.declared.code.Joint.the-variants.{And, Or}

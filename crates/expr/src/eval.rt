@@ -1,7 +1,7 @@
 // The value of an expression, over its bytes.
 ghost use mathlib.Core.Bool.{cond};
 ghost use mathlib.Core.Path.{_≡_};
-ghost use Prim.Native.Nat.{ℕ, _+_, _-_, _≤_, _<_};
+ghost use Prim.Native.Nat.{_+_, _-_, _≤_, _<_};
 ghost use lib.ListN.{length};
 ghost use Rattle.expr.specs.Coded.{Coded};
 ghost use Rattle.expr.specs.Expr.{Expr, guard, term, joined, tested, summed, eval};

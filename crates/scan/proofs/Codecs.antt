@@ -1,9 +1,9 @@
 -- A scanner that reads exactly the encodings of the values that P holds of.
-use Prim.Native.Nat.{ℕ, zero, suc, _+_, _-_, _*_, _/_, _%_, _<_, _≤_}
+use Prim.Native.Nat.{ℕ, zero, suc, _+_, _*_, _/_, _%_, _<_, _≤_}
 use mathlib.Core.Path.{_≡_, refl, sym, ap, subst, _∙_}
 use mathlib.Core.Bool.{Bool, true, false, cond, _&&_}
 use mathlib.Core.List.{List, [], _∷_, _++_}
-use mathlib.Core.Logic.{_⊎_, inl, inr}
+use mathlib.Core.Logic.{inl, inr}
 use native.Mathlib.Omega.{arith}
 use native.Mathlib.Nat.{add-zero}
 use lib.Dec.{ltb, leb}
@@ -12,9 +12,7 @@ use Rattle.std.proofs.shelf.Tests.{cases-bool, cases-lt, ltb-true, leb-true, lt
 use Rattle.std.proofs.shelf.Lists.{append-assoc, append-nil}
 use Rattle.std.specs.Joined.{joined}
 use Rattle.scan.specs.declared.refusal.Origin.{Origin}
-use Rattle.scan.specs.declared.refusal.Fault.{Fault}
 use Rattle.scan.specs.declared.refusal.FileRule.{FileRule}
-use Rattle.scan.specs.Faults.{faultAt}
 use Rattle.scan.specs.Scan.{Scan, done, refuse, ask, andThen, Out, good, bad, run, tested, counted, numbered, zeroOrOne, pair, collect}
 use Rattle.scan.specs.Stands.{Stands, Bytes, twoBytes, Each}
 use Rattle.scan.proofs.Runs.{after, run-after, run-then, run-done, run-ask, run-short, run-refuse}

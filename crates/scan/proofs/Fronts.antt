@@ -1,7 +1,7 @@
 -- What a scanner says of a file depends only on the bytes that it has read.
-use Prim.Native.Nat.{ℕ, zero, suc, _+_, _-_, _<_, _≤_}
-use mathlib.Core.Path.{_≡_, refl, sym, ap, subst, _∙_}
-use mathlib.Core.List.{List, [], _∷_, _++_}
+use Prim.Native.Nat.{ℕ, _+_, _-_, _<_, _≤_}
+use mathlib.Core.Path.{_≡_, sym, ap, _∙_}
+use mathlib.Core.List.{List}
 use mathlib.Core.Logic.{_⊎_, inl, inr}
 use native.Mathlib.Omega.{arith}
 use lib.ListN.{length, take, getD, length-take}
@@ -17,7 +17,7 @@ use Rattle.scan.specs.Faults.{faultAt}
 use Rattle.scan.specs.Scan.{Scan, done, refuse, ask, Out, good, bad, run}
 use Rattle.scan.specs.Fronts.{SameFront}
 use Rattle.scan.specs.Stands.{Bytes}
-use Rattle.scan.proofs.Runs.{run-done, run-ask, run-short}
+use Rattle.scan.proofs.Runs.{run-ask, run-short}
 use Rattle.scan.proofs.Codecs.{asked-read}
 
 -- a byte of the shared front

@@ -1,11 +1,11 @@
 -- What a scanner says, step by step.
-use Prim.Native.Nat.{ℕ, zero, suc, _+_, _-_, _<_, _≤_}
-use mathlib.Core.Path.{_≡_, refl, sym, ap, subst, _∙_}
-use mathlib.Core.Bool.{Bool, true, false, cond}
-use mathlib.Core.List.{List, [], _∷_, _++_}
-use mathlib.Core.Logic.{_⊎_, inl, inr}
+use Prim.Native.Nat.{ℕ, _+_, _<_, _≤_}
+use mathlib.Core.Path.{_≡_, refl, sym, ap, _∙_}
+use mathlib.Core.Bool.{Bool, true, false}
+use mathlib.Core.List.{List}
+use mathlib.Core.Logic.{inl, inr}
 use native.Mathlib.Omega.{arith}
-use lib.Dec.{ltb, leb}
+use lib.Dec.{ltb}
 use lib.ListN.{length, getD}
 use Rattle.std.proofs.shelf.Tests.{lt-ltb, le-ltb, cond-true, cond-false, cases-bool}
 use Rattle.std.specs.declared.result.Result.{Result}
@@ -16,7 +16,7 @@ use Rattle.scan.specs.declared.refusal.FileFault.the-variants.{EndsTooSoon, Br
 use Rattle.scan.specs.declared.refusal.FileRule.{FileRule}
 use Rattle.scan.specs.Faults.{faultAt}
 use Rattle.scan.specs.Scan.{Scan, done, refuse, ask, andThen, Out, good, bad, run, tested}
-use Rattle.scan.specs.Says.{Reads, Says, Next}
+use Rattle.scan.specs.Says.{Says, Next}
 
 pub run-done : {A : Type 0} (a : A) (s : List ℕ) (at : ℕ) → run (done a) s at ≡ good a at
 unfolding run

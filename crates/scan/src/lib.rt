@@ -1,11 +1,11 @@
 // Reading a file forward: the refusals with their places, and the smallest readers.
 ghost use mathlib.Core.Path.{_≡_};
-ghost use Prim.Native.Nat.{ℕ, _+_, _*_, _<_, _≤_};
+ghost use Prim.Native.Nat.{_+_, _<_, _≤_};
 ghost use lib.ListN.{length, getD};
 ghost use Rattle.std.specs.Results.{Cases};
 ghost use Rattle.std.specs.Vec.{made};
 ghost use Rattle.scan.specs.Faults.{faultAt};
-ghost use Rattle.scan.specs.Scan.{run, tested, counted, numbered, zeroOrOne, pair};
+ghost use Rattle.scan.specs.Scan.{run, counted, numbered, zeroOrOne, pair};
 ghost use Rattle.scan.specs.Says.{Says, Next};
 
 mod numbers;

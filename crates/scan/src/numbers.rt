@@ -1,6 +1,5 @@
 // The numbers by which refusals are told.
 ghost use mathlib.Core.Path.{_≡_};
-ghost use Prim.Native.Nat.{ℕ};
 ghost use Rattle.scan.specs.Faults.{sectionNumber, fileNumber, number as faultNumber};
 use crate::refusal::Fault;
 use crate::refusal::FileFault;

@@ -1,8 +1,8 @@
 -- The parts of an automaton's row, from where it begins.
 use Prim.Native.Nat.{ℕ, zero, suc, _+_, _-_, _<_, _≤_}
-use mathlib.Core.Path.{_≡_, refl, sym, ap, subst, _∙_}
+use mathlib.Core.Path.{_≡_, refl, ap, subst}
 use mathlib.Core.Bool.{Bool, true, false}
-use mathlib.Core.List.{List, [], _∷_, _++_}
+use mathlib.Core.List.{List, [], _∷_}
 use native.Mathlib.Omega.{arith}
 use lib.ListN.{length, take, drop, getD}
 use lib.Dec.{eqb}
@@ -11,7 +11,7 @@ use Rattle.std.proofs.shelf.Tests.{eq-eqb, ne-eqb, or-right, or-from}
 use Rattle.scan.specs.Stands.{Stands}
 use Rattle.scan.proofs.Standing.{stands-head, stands-split, stands-within, stands-part}
 use Rattle.system.specs.System.{Automaton}
-use Rattle.system.specs.Encode.{roleByte, markByte, markBytes, eventBytes, headBytes}
+use Rattle.system.specs.Encode.{roleByte, markBytes, eventBytes, headBytes}
 use Rattle.system.specs.Heads.{HeadFits}
 use Rattle.system.specs.Scan.{isIn}
 

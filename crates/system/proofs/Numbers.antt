@@ -1,13 +1,12 @@
 -- A number of one of n things that has a second test: what its scanner says.
-use Prim.Native.Nat.{ℕ, zero, suc, _+_, _<_, _≤_}
-use mathlib.Core.Path.{_≡_, refl, sym, ap, _∙_}
+use Prim.Native.Nat.{ℕ, _+_}
+use mathlib.Core.Path.{_≡_, refl, _∙_}
 use mathlib.Core.Bool.{Bool, true, false, cond}
 use mathlib.Core.List.{List}
-use mathlib.Core.Logic.{_⊎_, inl, inr}
-use native.Mathlib.Omega.{arith}
+use mathlib.Core.Logic.{inl, inr}
 use lib.Dec.{ltb}
 use lib.ListN.{length, getD}
-use Rattle.std.proofs.shelf.Tests.{cases-lt, cases-bool}
+use Rattle.std.proofs.shelf.Tests.{cases-bool}
 use Rattle.std.specs.declared.result.Result.the-variants.{Ok, Err}
 use Rattle.scan.specs.declared.refusal.Origin.{Origin}
 use Rattle.scan.specs.declared.refusal.Fault.{Fault}
@@ -15,9 +14,9 @@ use Rattle.scan.specs.declared.refusal.FileFault.the-variants.{Breaks}
 use Rattle.scan.specs.declared.refusal.FileRule.{FileRule}
 use Rattle.scan.specs.declared.refusal.FileRule.the-variants.{KnownNumber}
 use Rattle.scan.specs.Faults.{faultAt}
-use Rattle.scan.specs.Scan.{Scan, done, refuse, ask, andThen, Out, good, bad, run, tested, numbered}
+use Rattle.scan.specs.Scan.{Scan, done, refuse, ask, andThen, bad, run, tested, numbered}
 use Rattle.scan.specs.Says.{Says, Next}
-use Rattle.scan.proofs.Runs.{run-done, run-refuse, run-ask, run-short, byte-bad, byte-read, answers}
+use Rattle.scan.proofs.Runs.{run-done, run-refuse, byte-bad, byte-read, answers}
 
 module _ (o : Origin) (n : ℕ) (rule : FileRule) (test : ℕ → Bool) (s : List ℕ) (at : ℕ) where
   abbrev second : ℕ → Scan ℕ

@@ -1,9 +1,8 @@
 -- What the scanner of the transitions says, from what it says of their parts.
-use Prim.Native.Nat.{ℕ, zero, suc, _+_, _-_, _<_, _≤_}
+use Prim.Native.Nat.{ℕ, suc, _+_, _<_, _≤_}
 use mathlib.Core.Path.{_≡_, refl, sym, ap, subst, _∙_}
-use mathlib.Core.List.{List, [], _∷_, _++_, map}
+use mathlib.Core.List.{List, [], map}
 use native.Mathlib.Omega.{arith}
-use lib.Dec.{leb}
 use lib.ListN.{length, getD}
 use Rattle.std.proofs.shelf.Lists.{map-push}
 use Rattle.std.proofs.shelf.Tests.{le-leb, lt-leb}
@@ -15,14 +14,14 @@ use Rattle.scan.specs.declared.refusal.Fault.{Fault}
 use Rattle.scan.specs.declared.refusal.FileFault.the-variants.{Breaks}
 use Rattle.scan.specs.declared.refusal.FileRule.the-variants.{CountLimits}
 use Rattle.scan.specs.Faults.{faultAt}
-use Rattle.scan.specs.Scan.{Scan, done, andThen, Out, good, bad, run, numbered, pair, collect}
+use Rattle.scan.specs.Scan.{Scan, done, andThen, good, bad, run, numbered, pair, collect}
 use Rattle.scan.specs.Says.{Says, Next}
 use Rattle.scan.proofs.Runs.{run-done, run-refuse, run-assoc, run-then, run-fails, byte-bad, byte-read, byte-then, then-bad, then-read, answers, says-by}
 use Rattle.scan.proofs.Loops.{Going, going-none, going-more, going-bad}
 use Rattle.expr.specs.Expr.{guard}
 use Rattle.expr.specs.Scan.{sized}
 use Rattle.expr.specs.Ends.{At}
-use Rattle.system.specs.System.{Automaton, Row, Transition, idle}
+use Rattle.system.specs.System.{Automaton, Row, idle}
 use Rattle.system.specs.Scan.{origin, rowAfter, bound, owner, eventIn, updates, transition, transitionRow, fewRows, transitions}
 use Rattle.system.proofs.Sections.{same-row, bound-same}
 

@@ -1,6 +1,6 @@
 -- What the scanners of the sections say, from what they say of their parts.
-use Prim.Native.Nat.{ℕ, zero, suc, _+_, _-_, _*_, _<_, _≤_}
-use mathlib.Core.Path.{_≡_, refl, sym, ap, subst, _∙_}
+use Prim.Native.Nat.{ℕ, suc, _+_, _*_, _<_, _≤_}
+use mathlib.Core.Path.{_≡_, sym, ap, subst, _∙_}
 use mathlib.Core.Bool.{true, false}
 use mathlib.Core.List.{List, [], _∷_, _++_}
 use native.Mathlib.Omega.{arith}
@@ -12,15 +12,15 @@ use Rattle.std.specs.declared.result.Result.{Result}
 use Rattle.std.specs.declared.result.Result.the-variants.{Ok, Err}
 use Rattle.scan.specs.declared.refusal.Origin.{Origin}
 use Rattle.scan.specs.declared.refusal.Section.{Section}
-use Rattle.scan.specs.declared.refusal.Section.the-variants.{Events, Variables, Automata, Transitions}
+use Rattle.scan.specs.declared.refusal.Section.the-variants.{Events, Variables}
 use Rattle.scan.specs.declared.refusal.Fault.{Fault}
 use Rattle.scan.specs.declared.refusal.FileFault.the-variants.{Breaks}
-use Rattle.scan.specs.declared.refusal.FileRule.the-variants.{VariableValues, KnownNumber, RisingOrder, InAlphabet, CountLimits}
+use Rattle.scan.specs.declared.refusal.FileRule.the-variants.{VariableValues}
 use Rattle.scan.specs.Faults.{faultAt}
-use Rattle.scan.specs.Scan.{Scan, done, andThen, Out, good, bad, run, counted, zeroOrOne, pair, collect}
+use Rattle.scan.specs.Scan.{Scan, andThen, Out, good, bad, run, counted, zeroOrOne, pair, collect}
 use Rattle.scan.specs.Says.{Says, Next}
 use Rattle.scan.proofs.Runs.{run-done, run-refuse, run-then, run-fails, ask-goes, answers, says-by, byte-bad, byte-read, then-bad, then-read}
-use Rattle.scan.proofs.Loops.{Going, going-none, going-more, going-bad, going-all}
+use Rattle.scan.proofs.Loops.{Going, going-none, going-more, going-bad}
 use Rattle.system.specs.System.{EventKind, Variable}
 use Rattle.system.specs.Ranges.{ValueAt}
 use Rattle.system.specs.Heads.{BytesEach}

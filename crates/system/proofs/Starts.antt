@@ -1,8 +1,8 @@
 -- Where the automata's rows begin, as they are found one after another.
-use Prim.Native.Nat.{ℕ, zero, suc, _+_, _-_, _<_, _≤_}
-use mathlib.Core.Path.{_≡_, refl, sym, ap, subst, _∙_}
+use Prim.Native.Nat.{ℕ, suc, _+_, _<_}
+use mathlib.Core.Path.{_≡_, sym, ap, subst, _∙_}
 use mathlib.Core.List.{List, [], _∷_, _++_}
-use mathlib.Core.Logic.{_⊎_, inl, inr}
+use mathlib.Core.Logic.{inl, inr}
 use native.Mathlib.Omega.{arith}
 use lib.ListN.{length, getD, set}
 use Rattle.std.proofs.shelf.Lists.{length-push, getD-push, getD-append-left, getD-set-same, getD-set-other}
@@ -11,7 +11,7 @@ use Rattle.std.specs.declared.result.Result.the-variants.{Ok, Err}
 use Rattle.scan.specs.declared.refusal.Origin.{Origin}
 use Rattle.scan.specs.declared.refusal.Section.the-variants.{Automata}
 use Rattle.scan.specs.declared.refusal.Fault.{Fault}
-use Rattle.scan.specs.Scan.{Scan, Out, good, bad, run, counted, collect}
+use Rattle.scan.specs.Scan.{Scan, good, bad, run, counted}
 use Rattle.scan.specs.Says.{Says, Next}
 use Rattle.scan.specs.Stands.{Stands, Bytes}
 use Rattle.scan.proofs.Runs.{byte-bad, byte-read}

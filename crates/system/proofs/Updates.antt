@@ -1,14 +1,13 @@
 -- What the scanner of updates says, from what it says of one update.
-use Prim.Native.Nat.{ℕ, zero, suc, _+_, _-_, _<_, _≤_}
+use Prim.Native.Nat.{ℕ, _+_, _<_, _≤_}
 use mathlib.Core.Path.{_≡_, refl, sym, ap, subst, _∙_}
-use mathlib.Core.List.{List, [], _∷_, _++_, map}
+use mathlib.Core.List.{List, map}
 use native.Mathlib.Omega.{arith}
-use lib.ListN.{length}
 use Rattle.std.proofs.shelf.Lists.{map-push}
 use Rattle.std.specs.declared.result.Result.the-variants.{Ok, Err}
 use Rattle.scan.specs.declared.refusal.Origin.{Origin}
 use Rattle.scan.specs.declared.refusal.Fault.{Fault}
-use Rattle.scan.specs.Scan.{Scan, Out, good, bad, run, counted, collect}
+use Rattle.scan.specs.Scan.{Scan, good, bad, run, counted}
 use Rattle.scan.specs.Says.{Says, Next}
 use Rattle.scan.proofs.Runs.{run-done, byte-bad, byte-read, run-then, run-fails}
 use Rattle.scan.proofs.Loops.{Going, going-none, going-more, going-bad}

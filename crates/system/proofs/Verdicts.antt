@@ -1,5 +1,5 @@
 -- What is said of a file means what it should.
-use Prim.Native.Nat.{ℕ, zero, suc, _+_, _-_, _<_, _≤_}
+use Prim.Native.Nat.{ℕ, _+_, _<_, _≤_}
 use mathlib.Core.Path.{_≡_, refl, sym, ap, subst, _∙_}
 use mathlib.Core.List.{List}
 use mathlib.Core.Logic.{_⊎_, inl, inr}
@@ -15,15 +15,13 @@ use Rattle.scan.specs.declared.refusal.Fault.the-variants.{File, Buffer}
 use Rattle.scan.specs.declared.refusal.FileFault.the-variants.{EndsTooSoon, BytesFollow, Breaks}
 use Rattle.scan.specs.declared.refusal.FileRule.{FileRule}
 use Rattle.scan.specs.Faults.{faultAt}
-use Rattle.scan.specs.Fronts.{SameFront}
-use Rattle.scan.specs.Scan.{Scan, Out, good, bad, run, andThen, counted, tested}
+use Rattle.scan.specs.Scan.{Out, good, bad, run, andThen, counted, tested}
 use Rattle.scan.specs.Stands.{Bytes}
-use Rattle.scan.proofs.Fronts.{Asks, broken-inside, broken-alike, good-alike, good-forward, short-at-length, short-before, never-follows, never-buffer, front-shorter, front-cut, bytes-cut}
+use Rattle.scan.proofs.Fronts.{Asks, broken-inside, broken-alike, good-alike, short-at-length, short-before, never-follows, never-buffer, front-shorter, front-cut, bytes-cut}
 use Rattle.system.specs.System.{System, rows}
-use Rattle.system.specs.Formed.{WellFormed}
 use Rattle.system.specs.Encode.{encode}
 use Rattle.system.specs.Scan.{origin, events, file, nothingFollows, answer}
-use Rattle.system.specs.Verdict.{Stands-for, Stands-for-none, Refused-alike, Beginnings-short, Refusal-says, Refusal-holds}
+use Rattle.system.specs.Verdict.{Stands-for, Stands-for-none, Refusal-says, Refusal-holds}
 use Rattle.system.proofs.Files.{one-system, accepted-encodes, encodes-accepted}
 
 pub accepted-stands : (s : List ℕ) → Bytes s → (S : System) (end : ℕ) → answer s ≡ good S end → Stands-for s S

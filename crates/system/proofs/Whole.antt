@@ -1,9 +1,9 @@
 -- What is said of a file, from what is said of its sections.
-use Prim.Native.Nat.{ℕ, zero, suc, _+_, _-_, _*_, _<_, _≤_}
+use Prim.Native.Nat.{ℕ, zero, suc, _+_, _*_, _<_, _≤_}
 use mathlib.Core.Path.{_≡_, refl, sym, ap, subst, _∙_}
-use mathlib.Core.List.{List, [], _∷_, _++_, map}
+use mathlib.Core.List.{List, [], _∷_}
 use native.Mathlib.Omega.{arith}
-use lib.ListN.{length, getD, length-append}
+use lib.ListN.{length, getD}
 use Rattle.std.specs.Joined.{joined}
 use Rattle.std.specs.declared.result.Result.{Result}
 use Rattle.std.specs.declared.result.Result.the-variants.{Ok, Err}
@@ -11,15 +11,14 @@ use Rattle.scan.specs.declared.refusal.Section.the-variants.{Transitions}
 use Rattle.scan.specs.declared.refusal.Fault.{Fault}
 use Rattle.scan.specs.declared.refusal.FileFault.the-variants.{BytesFollow}
 use Rattle.scan.specs.Faults.{faultAt}
-use Rattle.scan.specs.Scan.{Scan, done, andThen, Out, good, bad, run}
+use Rattle.scan.specs.Scan.{good, bad, run}
 use Rattle.scan.specs.Says.{Says}
 use Rattle.scan.specs.Stands.{Stands, Bytes, Each, twoBytes}
-use Rattle.scan.proofs.Runs.{run-done, run-then, run-fails, answers}
+use Rattle.scan.proofs.Runs.{run-done, run-then, run-fails}
 use Rattle.scan.proofs.Codecs.{Read}
 use Rattle.scan.proofs.Standing.{stands-split}
 use Rattle.system.specs.declared.automata.Heads.{Heads}
 use Rattle.system.specs.declared.transitions.Rows.{Rows}
-use Rattle.system.specs.declared.layout.Layout.{Layout}
 use Rattle.system.specs.System.{EventKind, Variable, Automaton, Row, System, idle, rows}
 use Rattle.system.specs.Encode.{headBytes, rowBytes, rowsBytes}
 use Rattle.system.specs.Scan.{origin, events, variables, heads, transitions, assembled, file, answer}

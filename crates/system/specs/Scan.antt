@@ -1,5 +1,5 @@
 -- Reading a system file forward: each byte's rule is tested where it is read, and the first that is broken refuses the file.
-use Prim.Native.Nat.{ℕ, zero, suc, max, _+_}
+use Prim.Native.Nat.{ℕ, suc, max}
 use mathlib.Core.Bool.{Bool, true, false, _&&_, _||_, cond}
 use mathlib.Core.List.{List, [], _∷_, map}
 use lib.Dec.{eqb, leb, ltb}

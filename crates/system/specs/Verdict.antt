@@ -4,14 +4,12 @@ use mathlib.Core.List.{List}
 use mathlib.Core.Path.{_≡_}
 use lib.ListN.{length, take}
 use Rattle.scan.specs.declared.refusal.Origin.{Origin}
-use Rattle.scan.specs.declared.refusal.Place.{Place}
 use Rattle.scan.specs.declared.refusal.Fault.{Fault}
 use Rattle.scan.specs.declared.refusal.Fault.the-variants.{File, Buffer}
-use Rattle.scan.specs.declared.refusal.FileFault.{FileFault}
 use Rattle.scan.specs.declared.refusal.FileFault.the-variants.{EndsTooSoon, BytesFollow, Breaks}
 use Rattle.scan.specs.Faults.{faultAt}
 use Rattle.scan.specs.Fronts.{SameFront}
-use Rattle.scan.specs.Scan.{Out, good, bad}
+use Rattle.scan.specs.Scan.{bad}
 use Rattle.system.specs.System.{System}
 use Rattle.system.specs.Formed.{WellFormed}
 use Rattle.system.specs.Encode.{encode}

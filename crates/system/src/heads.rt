@@ -1,7 +1,5 @@
 // An automaton's row in a file: its parts, from where the row begins.
-ghost use mathlib.Core.List.{List};
 ghost use mathlib.Core.Path.{_≡_};
-ghost use Prim.Native.Nat.{ℕ, _<_};
 ghost use lib.ListN.{length};
 ghost use Rattle.scan.specs.Stands.{Stands};
 ghost use Rattle.system.specs.System.{Automaton};

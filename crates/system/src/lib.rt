@@ -16,7 +16,6 @@ mod range;
 mod transitions;
 mod variables;
 
-use automata::Heads;
 use automata::check_heads;
 use events::check_events;
 pub use kinds::EventKind;

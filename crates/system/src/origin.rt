@@ -1,6 +1,6 @@
 // Where rows stand.
 ghost use mathlib.Core.Path.{_≡_};
-ghost use Prim.Native.Nat.{ℕ, suc, _<_};
+ghost use Prim.Native.Nat.{suc, _<_};
 ghost use Rattle.system.specs.Scan.{origin};
 use scan::Origin;
 use scan::Section;

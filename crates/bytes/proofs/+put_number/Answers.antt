@@ -1,4 +1,3 @@
-use native.Mathlib.Omega.{arith}
 use borrow.Author.Needs.{needs}
 use Rattle.bytes.proofs.Folds.{number-one, number-more}
 use Rattle.bytes.proofs.+put_number.Needs as need

@@ -1,9 +1,7 @@
-use mathlib.Core.Path.{_≡_, _∙_, ap}
-use lib.IntN.{ℤ}
+use mathlib.Core.Path.{_≡_}
 use mir.Val.{toZ, ofZ}
 use mir.Syntax.{w16}
 use borrow.Author.Needs.{needs}
-use Rattle.std.specs.Iters.{folded}
 use Rattle.bytes.proofs.Ends.{value-below}
 use Rattle.bytes.proofs.Folds.{folded-append}
 use Rattle.bytes.proofs.put_value.Needs as need

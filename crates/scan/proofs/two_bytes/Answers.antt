@@ -1,4 +1,4 @@
-use mathlib.Core.Path.{refl, sym, ap, _∙_}
+use mathlib.Core.Path.{refl, sym, _∙_}
 use Rattle.std.proofs.shelf.Results.{err-from-errBy}
 use Rattle.scan.specs.Scan.{pair}
 use Rattle.scan.proofs.Runs.{ask-ends, ask-goes, answers, run-done}

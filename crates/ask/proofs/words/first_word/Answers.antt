@@ -1,5 +1,4 @@
 use native.Mathlib.Nat.{sub-zero}
-use native.Mathlib.Omega.{arith}
 use Rattle.std.proofs.shelf.Lists.{take-rest}
 use Rattle.ask.proofs.Cuts.{cut-at, cut-none}
 use Rattle.ask.proofs.words.first_word.Needs as need

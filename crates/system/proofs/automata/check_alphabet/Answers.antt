@@ -3,7 +3,7 @@ use mathlib.Core.Path.{_≡_, ap, _∙_}
 use native.Mathlib.Omega.{arith}
 use Rattle.std.proofs.shelf.Results.{err-from-errBy}
 use Rattle.scan.proofs.Runs.{answers}
-use Rattle.scan.proofs.Loops.{going-all, going-bad}
+use Rattle.scan.proofs.Loops.{going-all}
 use Rattle.system.proofs.Sections.{alphabet-bad, alphabet-read}
 use Rattle.system.proofs.automata.check_alphabet.Needs as need
 

@@ -1,8 +1,7 @@
 use Prim.Native.Nat.{_+_}
-use mathlib.Core.Path.{_≡_, refl, _∙_}
+use mathlib.Core.Path.{refl, _∙_}
 use native.Mathlib.Omega.{arith}
 use Rattle.std.proofs.shelf.Results.{err-from-errBy}
-use Rattle.scan.specs.Scan.{good, bad}
 use Rattle.scan.proofs.Runs.{answers, says-by, run-done, byte-bad, byte-then}
 use Rattle.system.specs.Scan.{headRow}
 use Rattle.system.proofs.Sections.{bytes-bad, bytes-read, bytes-pass}

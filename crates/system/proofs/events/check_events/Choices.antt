@@ -1,4 +1,4 @@
-use Prim.Native.Nat.{_+_, _<_, _≤_}
+use Prim.Native.Nat.{_+_, _≤_}
 use lib.ListN.{length}
 use Rattle.system.proofs.Sections.{EventsGoing}
 use Rattle.system.proofs.events.check_events.Given as given

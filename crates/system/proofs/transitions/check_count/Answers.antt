@@ -1,5 +1,3 @@
-use Prim.Native.Nat.{_+_}
-use mathlib.Core.Path.{_≡_, refl, ap, sym, subst, _∙_}
 use native.Mathlib.Omega.{arith}
 use Rattle.std.proofs.shelf.Results.{err-from-errBy}
 use Rattle.system.proofs.Rows.{count-bad, count-read, count-over}

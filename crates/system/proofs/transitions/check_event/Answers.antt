@@ -1,5 +1,4 @@
-use mathlib.Core.Bool.{true, false}
-use mathlib.Core.Path.{_≡_, ap, sym, _∙_}
+use mathlib.Core.Path.{ap, sym, _∙_}
 use Rattle.std.proofs.shelf.Results.{err-from-errBy}
 use Rattle.scan.specs.Scan.{bad}
 use Rattle.system.specs.Scan.{isIn, eventIn}

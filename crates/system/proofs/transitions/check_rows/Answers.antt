@@ -1,11 +1,8 @@
-use Prim.Native.Nat.{_+_, _<_}
-use mathlib.Core.Path.{_≡_, refl, sym, subst, _∙_}
+use Prim.Native.Nat.{_<_}
+use mathlib.Core.Path.{_≡_, refl, sym, _∙_}
 use native.Mathlib.Omega.{arith}
 use lib.ListN.{length}
 use Rattle.std.proofs.shelf.Results.{err-from-errBy}
-use Rattle.std.specs.declared.result.Result.the-variants.{Ok, Err}
-use Rattle.scan.specs.Scan.{run}
-use Rattle.scan.specs.Says.{Says, Next}
 use Rattle.scan.proofs.Runs.{answers}
 use Rattle.scan.proofs.Loops.{going-all}
 use Rattle.system.specs.Scan.{owner}
