@@ -83,17 +83,7 @@ run-assoc (ask o go) q r s at =
       | inr past ↦ rw past
     ]
 
--- the first part refuses; it reads a value, and the rest goes on from there
-module _ {A B R Q : Type 0} (K : R → A → ℕ → Type 0) (L : Q → B → ℕ → Type 0) (p : Scan A) (next : A → Scan B) (s : List ℕ) (at : ℕ) where
-  pub failed : (r : Result Q Fault) (f x : Fault) → r ≡ Err x → x ≡ f → Says K (Err f) (run p s at) → Says L r (run (andThen p next) s at)
-  failed r f x e q says = refuses L _ r x f e q (run-fails p next s at f (says .agree))
-
-  pub passed : (v : R) (r : Result Q Fault) → Says K (Ok v) (run p s at) → ((a : A) (end : ℕ) → K v a end → Says L r (run (next a) s end)) → Says L r (run (andThen p next) s at)
-  passed v r says then′ =
-      let w = says .agree in
-      rw (run-then p next s at (w .end) (w .value) (w .is)) (then′ (w .value) (w .end) (w .holds))
-
--- the same, where the first part reads the value that the code has
+-- the first part refuses, or reads the value that the code has
 module _ {A B R : Type 0} (p : Scan A) (next : A → Scan B) (s : List ℕ) (at : ℕ) where
   pub then-bad : (K : R → A → ℕ → Type 0) (f : Fault) → Says K (Err f) (run p s at) → run (andThen p next) s at ≡ bad f
   then-bad K f says = run-fails p next s at f (says .agree)
