@@ -1,7 +1,7 @@
 -- The scanner of expressions reads each well-formed expression from its bytes, and nothing else.
 use Prim.Native.Nat.{ℕ, zero, suc, max, _+_, _-_, _*_, _/_, _%_, _<_, _≤_}
 use mathlib.Core.Path.{_≡_, refl, sym, ap, subst, _∙_}
-use mathlib.Core.Bool.{Bool, true, false, cond}
+use mathlib.Core.Bool.{cond}
 use mathlib.Core.List.{List, [], _∷_, _++_}
 use mathlib.Core.Logic.{inl, inr}
 use native.Mathlib.Omega.{arith}
@@ -19,18 +19,13 @@ use Rattle.scan.specs.Stands.{Stands, Bytes}
 use Rattle.scan.proofs.Runs.{run-done, run-ask, run-then}
 use Rattle.scan.proofs.Codecs.{both-read, asked-read}
 use Rattle.scan.proofs.Standing.{stands-none, stands-append, stands-split, stands-one, stands-head}
-use Rattle.expr.specs.declared.code.Joint.{Joint}
-use Rattle.expr.specs.declared.code.Joint.the-variants.{And, Or}
-use Rattle.expr.specs.declared.code.Order.{Order}
-use Rattle.expr.specs.declared.code.Order.the-variants.{Eq, Ne, Lt, Le}
-use Rattle.expr.specs.declared.code.Sign.{Sign}
-use Rattle.expr.specs.declared.code.Sign.the-variants.{Plus, Minus}
 use Rattle.expr.specs.declared.code.GuardCode.{GuardCode}
 use Rattle.expr.specs.declared.code.GuardCode.the-variants as G
 use Rattle.expr.specs.declared.code.TermCode.{TermCode}
 use Rattle.expr.specs.declared.code.TermCode.the-variants as K
 use Rattle.expr.specs.Codes.{truthByte, jointByte, orderByte, signByte, guardCode, termCode}
 use Rattle.expr.specs.Expr.{Kind, guard, term, Expr, truth, negate, join, test, literal, variable, sum, branch, bytesOf, depth, Leaves}
+use Rattle.expr.proofs.Places.{truth-code, joint-code, order-code, sign-code}
 use Rattle.expr.specs.Scan.{Part, nextByte, Reader, one, two, guardBy, termBy, parse}
 
 -- the byte that a code stands for
@@ -53,24 +48,6 @@ guard-byte b = grind (arith, tells)
 
 term-byte : (b : ℕ) → TermByte b (termCode b)
 term-byte b = grind (arith, tells)
-
-truth-code : (v : Bool) → guardCode (truthByte v) ≡ G.Truth v
-truth-code true = refl
-truth-code false = refl
-
-joint-code : (j : Joint) → guardCode (jointByte j) ≡ G.Join j
-joint-code And = refl
-joint-code Or = refl
-
-order-code : (o : Order) → guardCode (orderByte o) ≡ G.Test o
-order-code Eq = refl
-order-code Ne = refl
-order-code Lt = refl
-order-code Le = refl
-
-sign-code : (o : Sign) → termCode (signByte o) ≡ K.Sum o
-sign-code Plus = refl
-sign-code Minus = refl
 
 stands-cons : (s : List ℕ) (at x : ℕ) (xs : List ℕ) → at < length s → getD s at 0 ≡ x → Stands s (at + 1) xs → Stands s at (x ∷ xs)
 stands-cons s at x xs under is h = stands-append s at (x ∷ []) xs (subst (λ b. Stands s at (b ∷ [])) is (stands-one s at under)) h

@@ -72,21 +72,21 @@ termHead (variable v) = K.Variable
 termHead (sum o a b) = K.Sum o
 termHead (branch g a b) = K.Case
 
-truth-code : (b : Bool) → guardCode (truthByte b) ≡ G.Truth b
+pub truth-code : (b : Bool) → guardCode (truthByte b) ≡ G.Truth b
 truth-code true = refl
 truth-code false = refl
 
-joint-code : (j : Joint) → guardCode (jointByte j) ≡ G.Join j
+pub joint-code : (j : Joint) → guardCode (jointByte j) ≡ G.Join j
 joint-code And = refl
 joint-code Or = refl
 
-order-code : (o : Order) → guardCode (orderByte o) ≡ G.Test o
+pub order-code : (o : Order) → guardCode (orderByte o) ≡ G.Test o
 order-code Eq = refl
 order-code Ne = refl
 order-code Lt = refl
 order-code Le = refl
 
-sign-code : (o : Sign) → termCode (signByte o) ≡ K.Sum o
+pub sign-code : (o : Sign) → termCode (signByte o) ≡ K.Sum o
 sign-code Plus = refl
 sign-code Minus = refl
 
