@@ -3,12 +3,9 @@ use Prim.Native.Nat.{ℕ, _+_, _-_}
 use mathlib.Core.Path.{_≡_, sym, ap, subst, _∙_}
 use mathlib.Core.List.{List, [], _∷_}
 use native.Mathlib.Omega.{arith}
-use lib.Dec.{eqb}
 use lib.ListN.{length, drop, getD, length-append}
 use Rattle.std.proofs.shelf.Lists.{nil-from-length}
-use Rattle.std.proofs.shelf.Tests.{eqb-true, eq-eqb}
 use Rattle.std.specs.Joined.{joined}
-use Rattle.std.specs.Orderings.{Decides}
 use Rattle.scan.specs.Stands.{Stands}
 use Rattle.scan.proofs.Standing.{stands-split}
 use Rattle.view.specs.Walk.{OneAt, ManyAt}
@@ -16,9 +13,6 @@ use Rattle.view.specs.Walk.{OneAt, ManyAt}
 module _ {A : Type 0} {enc : A → List ℕ} {P : A → Type 0} {s : List ℕ} {at left : ℕ} where
   pub none-left : (xs : List A) → ManyAt enc P s at left xs → left ≡ 0 → xs ≡ []
   none-left xs h none = nil-from-length xs (h .count ∙ none)
-
-  pub none-decided : (xs : List A) → ManyAt enc P s at left xs → Decides (eqb left 0) (xs ≡ [])
-  none-decided xs h = (λ t. none-left xs h (eqb-true left 0 t), λ e. eq-eqb left 0 (sym (h .count) ∙ ap length e))
 
   pub first-left : (d : A) (xs : List A) → ManyAt enc P s at left xs → (left ≡ 0 → ⊥) → OneAt enc P s at (getD xs 0 d)
   first-left d [] h some = absurd (some (sym (h .count)))

@@ -1,10 +1,9 @@
 // Updates and rows, one after another.
-ghost use mathlib.Core.List.{List, []};
+ghost use mathlib.Core.List.{List};
 ghost use mathlib.Core.Path.{_≡_};
 ghost use Prim.Native.Nat.{_+_};
 ghost use lib.ListN.{length, getD, drop};
 ghost use Rattle.std.specs.Joined.{joined};
-ghost use Rattle.std.specs.Orderings.{Decides};
 ghost use Rattle.system.specs.System.{Update as Assignment, Row};
 ghost use Rattle.system.specs.Encode.{updateBytes, rowBytes};
 ghost use Rattle.view.specs.Walk.{UpdateAt, UpdateStanding, toZero, RowAt, RowStanding, idleRow};
@@ -39,12 +38,6 @@ fn update_at(file: &[u8], at: usize) -> Update<'_>
 }
 
 impl<'a> Updates<'a> {
-    pub fn is_empty(&self) -> bool
-        ensures { λ r. ⌜ ((us : List Assignment) → UpdatesOf (now (self .entry)) us → Decides r (us ≡ [])) ⌝ }
-    {
-        self.left == 0
-    }
-
     // The first that is left; where none is, variable 0 to 0.
     pub fn first(&self) -> Update<'a>
         ensures { λ r. ⌜ ((us : List Assignment) → UpdatesOf (now (self .entry)) us → UpdateShows r (getD us 0 toZero)) ⌝ }
@@ -120,12 +113,6 @@ fn row_at(file: &[u8], at: usize) -> Transition<'_>
 }
 
 impl<'a> Rows<'a> {
-    pub fn is_empty(&self) -> bool
-        ensures { λ r. ⌜ ((rs : List Row) → RowsOf (now (self .entry)) rs → Decides r (rs ≡ [])) ⌝ }
-    {
-        self.left == 0
-    }
-
     // The first that is left; where none is, one with every number 0, the guard `TRUE` and no updates.
     pub fn first(&self) -> Transition<'a>
         ensures { λ r. ⌜ ((rs : List Row) → RowsOf (now (self .entry)) rs → TransitionShows r (getD rs 0 idleRow)) ⌝ }
