@@ -1,6 +1,6 @@
 -- The words of a line, with one space between two, and the bytes that a word stands for.
 use Rattle.std.specs.Prelude.{◌≡◌, ℕ, ◌<◌, Bool, cond, ◌&&◌, List, [], ◌∷◌, ◌++◌, length, Some, None, Option, ◌==◌, ◌≢◌, slice_index}
-use Rattle.hex.specs.Hex.{bytes_of}
+use Rattle.hexadecimal.specs.Hex.{bytes_of}
 
 -- what follows a word: nothing, or a space and other words
 abbrev pub behind : Option (List ℕ) → List ℕ

@@ -5,7 +5,7 @@ ghost use Rattle.ask.specs.Answers.{NoBytes};
 ghost use Rattle.ask.specs.Words.{Begins, word_bytes};
 
 use crate::answer::{Failure, Mistake};
-use hex::bytes_of;
+use hexadecimal::bytes_of;
 use std::alloc::Global;
 
 // Where the first word of a text ends.

@@ -1,7 +1,7 @@
 // The text form of guards and terms.
 ghost use Rattle.describe.specs.Grown.{grown};
 
-use bytes::Sink;
+use sinks::Sink;
 use expr::{Guard, Numbered, Term};
 use std::fmt;
 

@@ -1,7 +1,7 @@
 -- The texts of cases, entry by entry.
 use Rattle.std.proofs.Common.{◌≡◌, ℕ, zero, suc, ◌+◌, Bool, true, false, cond, eqb, List, [], ◌∷◌, ◌++◌, codes, decimal, sym, refl, ap, ◌∙◌, append_assoc, append-nil, add-one}
 use mathlib.Core.Option.{Option, none, some}
-use Rattle.bytes.specs.Text.{each}
+use Rattle.sinks.specs.Text.{each}
 use Rattle.expr.specs.Expr.{Expr, term}
 use Rattle.system.specs.System.{Transition}
 use Rattle.model_text.specs.declared.words.Single.TheVariants.{Choice, Location}

@@ -1,7 +1,7 @@
 -- What a sink has taken after several calls, and after the turns of a loop.
 use Rattle.std.proofs.Common.{◌≡◌, ℕ, zero, suc, ◌+◌, List, [], ◌∷◌, ◌++◌, fold, sym, refl, ap, ◌∙◌, append_assoc, add-one}
 use Rattle.std.specs.List.{flat_map}
-use Rattle.bytes.proofs.Folds.{folded_append}
+use Rattle.sinks.proofs.Folds.{folded_append}
 use Rattle.model_text.specs.Lists.{up_to}
 
 -- texts one after another, and then a last one

@@ -1,7 +1,7 @@
 -- The text of a model, group by group: what each automaton, variable and event adds to it.
 use Rattle.std.specs.Prelude.{ℕ, zero, suc, pred, ◌+◌, Bool, true, false, cond, not, ◌&&◌, List, [], ◌∷◌, ◌++◌, length, ℤ, pos, codes, decimal, ◌==◌}
 use Rattle.std.proofs.Math.Option.{Option, none, some}
-use Rattle.bytes.specs.Text.{each}
+use Rattle.sinks.specs.Text.{each}
 use Rattle.expr.specs.Expr.{Expr, term}
 use Rattle.clash.specs.Rules.{ClashRule}
 use Rattle.system.specs.System.{Transition, Automaton, Variable as Bounded, System}

@@ -1,6 +1,6 @@
 // Texts of one thing after another: each loop is written once, for every text that goes by numbers.
 ghost use Rattle.std.specs.Prelude.{◌≡◌, ℕ, ◌+◌, List, length, fold};
-ghost use Rattle.bytes.specs.Text.{each};
+ghost use Rattle.sinks.specs.Text.{each};
 ghost use Rattle.system.specs.System.{System, Automaton, Transition, Row};
 ghost use Rattle.view.specs.Shown.{ViewOf, HeadShows, RowsOf, TransitionShows};
 ghost use Rattle.model_text.specs.Lists.{up_to};
@@ -9,7 +9,7 @@ ghost use Rattle.emit.specs.Own.{own_rows};
 
 use crate::parts::head_of;
 use crate::rows::part;
-use bytes::Sink;
+use sinks::Sink;
 use view::{Head, Rows, View};
 
 // A text for each number of a system's events, variables or automata.

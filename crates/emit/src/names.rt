@@ -3,7 +3,7 @@ ghost use Rattle.std.specs.Prelude.{◌≡◌, fold};
 ghost use Rattle.model_text.specs.Words.{single, double, name_text};
 ghost use Rattle.translation.specs.Written.{join_name, settle_name};
 
-use bytes::{Sink, put_number, put_text};
+use sinks::{Sink, put_number, put_text};
 use expr::Names;
 use model_text::{Double, Name, Single};
 

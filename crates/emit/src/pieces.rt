@@ -5,7 +5,7 @@ ghost use Rattle.model_text.specs.Words.{name_text};
 ghost use Rattle.translation.specs.Written.{compared};
 
 use crate::names::put_name;
-use bytes::{Sink, put_number, put_text};
+use sinks::{Sink, put_number, put_text};
 use expr::code::Order;
 use expr::put_order;
 use model_text::Name;

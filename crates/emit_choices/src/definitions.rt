@@ -7,7 +7,7 @@ ghost use Rattle.translation.specs.Translate.{taken};
 ghost use Rattle.emit.specs.Texts.{stay_text, taken_text, choices_text};
 
 use crate::outside::put_outside;
-use bytes::{Sink, put_text};
+use sinks::{Sink, put_text};
 use emit::{AutomatonText, TransitionText, begin_definition, put_compared, put_transitions};
 use expr::Numbered;
 use expr::code::Order;

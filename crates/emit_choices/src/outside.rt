@@ -5,7 +5,7 @@ ghost use Rattle.model_text.specs.Trees.{print};
 ghost use Rattle.translation.specs.Translate.{outside};
 ghost use Rattle.emit_choices.specs.Further.{further};
 
-use bytes::{Sink, put_text};
+use sinks::{Sink, put_text};
 use emit::put_compared;
 use expr::code::Order;
 use model_text::Name;

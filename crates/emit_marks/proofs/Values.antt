@@ -1,8 +1,8 @@
 -- The texts of a variable's marked values.
 use Rattle.std.proofs.Common.{◌≡◌, ℕ, List, [], ◌++◌, ℤ, pos, negsuc, codes, decimal, fold, refl, ap, ◌∙◌, append_assoc, append-nil, arith, w16, SFits, to_z, of_z}
 use Rattle.std.proofs.lemmas.Fmt.{decimal_digit}
-use Rattle.bytes.specs.Text.{value_text}
-use Rattle.bytes.proofs.Folds.{value-sent}
+use Rattle.sinks.specs.Text.{value_text}
+use Rattle.sinks.proofs.Folds.{value-sent}
 use Rattle.expr.specs.Text.{between}
 use Rattle.model_text.specs.Trees.{print}
 use Rattle.translation.specs.Written.{number}

@@ -1,6 +1,6 @@
 // Which locations and values are marked.
 ghost use Rattle.std.specs.Prelude.{◌≡◌, Bool, List, map, fold};
-ghost use Rattle.bytes.specs.Text.{each};
+ghost use Rattle.sinks.specs.Text.{each};
 ghost use Rattle.clash.specs.Rules.{ClashRule};
 ghost use Rattle.system.specs.System.{System};
 ghost use Rattle.system.specs.Encode.{mark_byte};
@@ -9,7 +9,7 @@ ghost use Rattle.translation.specs.Systems.{variable};
 ghost use Rattle.emit.specs.Texts.{marks_text, unmarked_location, unmarked_value, marked_text};
 ghost use Rattle.emit_marks.specs.Locations.{location_entry};
 
-use bytes::{Sink, put_number, put_text, put_value};
+use sinks::{Sink, put_number, put_text, put_value};
 use emit::{
     AutomatonText, NumberText, begin_definition, put_automata, put_compared, put_name, put_numbers,
     values_of,

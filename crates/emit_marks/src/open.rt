@@ -2,7 +2,7 @@
 ghost use Rattle.emit.specs.Texts.{open_entry, open_text, plant_entry, always_text};
 
 use crate::controlled::is_with;
-use bytes::{Sink, put_text};
+use sinks::{Sink, put_text};
 use emit::{AutomatonText, TransitionText, begin_definition, is_in, put_compared, put_transitions};
 use expr::Numbered;
 use expr::code::Order;

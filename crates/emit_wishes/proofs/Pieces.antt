@@ -1,7 +1,7 @@
 -- Pieces one after another are the text of an entry or a line, whose brackets are elsewhere.
 use Rattle.std.proofs.Common.{◌≡◌, ℕ, ◌+◌, List, ◌++◌, codes, decimal, sym, ap, ◌∙◌, append_assoc, arith}
 use Rattle.std.proofs.lemmas.Fmt.{decimal_digit}
-use Rattle.bytes.specs.Text.{each}
+use Rattle.sinks.specs.Text.{each}
 use Rattle.expr.specs.Expr.{Expr, term}
 use Rattle.expr.specs.Text.{between}
 use Rattle.system.specs.System.{Transition}

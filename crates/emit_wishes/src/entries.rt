@@ -9,7 +9,7 @@ ghost use Rattle.translation.specs.Written.{is_at};
 ghost use Rattle.emit.specs.Texts.{status_entry, value_entry};
 ghost use Rattle.emit_wishes.specs.Sought.{first_is, updates_from};
 
-use bytes::{Sink, put_text};
+use sinks::{Sink, put_text};
 use emit::{TransitionText, put_compared};
 use expr::Numbered;
 use expr::code::Order;

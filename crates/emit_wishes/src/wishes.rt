@@ -1,6 +1,6 @@
 // The wishes of one automaton for one variable.
 ghost use Rattle.std.specs.Prelude.{◌≡◌, ℕ, ◌+◌, List, fold};
-ghost use Rattle.bytes.specs.Text.{each};
+ghost use Rattle.sinks.specs.Text.{each};
 ghost use Rattle.system.specs.System.{Transition};
 ghost use Rattle.view.specs.Shown.{RowsOf};
 ghost use Rattle.emit.specs.Own.{own_rows};
@@ -9,7 +9,7 @@ ghost use Rattle.emit_wishes.specs.Lines.{case_text};
 
 use crate::entries::{StatusEntry, ValueEntry};
 use crate::joins::put_join;
-use bytes::{Sink, put_text};
+use sinks::{Sink, put_text};
 use clash::Rule;
 use emit::{AutomatonText, TransitionText, begin_definition, put_transitions};
 use model_text::{Double, Name};

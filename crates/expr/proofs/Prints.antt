@@ -1,7 +1,7 @@
 -- What a sink has taken after the parts of an expression's text.
 use Rattle.std.proofs.Common.{◌≡◌, ℕ, List, [], ◌∷◌, ℤ, codes, fold, refl, ap, ◌∙◌, w16, SFits, to_z, of_z}
-use Rattle.bytes.specs.Text.{value_text}
-use Rattle.bytes.proofs.Folds.{chain, value-sent}
+use Rattle.sinks.specs.Text.{value_text}
+use Rattle.sinks.proofs.Folds.{chain, value-sent}
 use Rattle.expr.specs.Expr.{Kind, guard, term, Expr, negate, branch}
 use Rattle.expr.specs.Text.{between, text_of}
 

@@ -1,6 +1,6 @@
 -- The text form of guards and terms, under names for their variables.
 use Rattle.std.specs.Prelude.{ℕ, Bool, true, false, List, ◌++◌, codes}
-use Rattle.bytes.specs.Text.{value_text}
+use Rattle.sinks.specs.Text.{value_text}
 use Rattle.expr.specs.declared.code.Joint.{Joint}
 use Rattle.expr.specs.declared.code.Joint.TheVariants.{And, Or}
 use Rattle.expr.specs.declared.code.Order.{Order}

@@ -8,7 +8,7 @@ ghost use Rattle.expr.specs.Text.{truth_text, joint_text, order_text, sign_text,
 use crate::checked::{Guard, Term};
 use crate::code::{GuardCode, Joint, Order, Sign, TermCode};
 use crate::{guard_code, literal, term_code};
-use bytes::{Sink, put_number, put_text, put_value};
+use sinks::{Sink, put_number, put_text, put_value};
 
 pub trait Names {
     // The name of each variable.

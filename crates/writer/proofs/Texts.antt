@@ -1,7 +1,7 @@
 -- The text of a file, and what is answered of it.
 use Rattle.std.proofs.Common.{◌≡◌, ℕ, ◌^◌, ◌<◌, Bool, true, false, cond, leb, List, ◌++◌, length, take, drop, Ok, Err, Result, sym, refl, ap, ◌∙◌, subst, arith}
 use Rattle.std.proofs.lemmas.List.{take_at}
-use Rattle.bytes.specs.Post.{Written}
+use Rattle.sinks.specs.Post.{Written}
 use Rattle.scan.specs.declared.refusal.Fault.{Fault}
 use Rattle.scan.specs.declared.refusal.Fault.TheVariants.{Buffer}
 use Rattle.scan.specs.Scan.{good, bad}

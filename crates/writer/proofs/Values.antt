@@ -2,7 +2,7 @@
 use Rattle.std.proofs.Common.{◌≡◌, ℕ, List, ◌++◌, ℤ, pos, negsuc, codes, fold, refl, ap, ◌∙◌, append_assoc, w16, SFits, to_z, of_z}
 use Rattle.std.proofs.lemmas.Int.{to_z-of_z}
 use Rattle.expr.specs.Text.{between}
-use Rattle.bytes.specs.Text.{value_text}
+use Rattle.sinks.specs.Text.{value_text}
 use Rattle.model_text.specs.Trees.{print}
 use Rattle.translation.specs.Written.{number}
 

@@ -1,9 +1,9 @@
 // From a system file to its model text.
 ghost use Rattle.std.specs.Prelude.{take, IfOk};
-ghost use Rattle.bytes.specs.Post.{Written};
+ghost use Rattle.sinks.specs.Post.{Written};
 ghost use Rattle.writer.specs.Answered.{file_text, Answered, SaysSystem};
 
-use bytes::{Document, Sink, write_of};
+use sinks::{Document, Sink, write_of};
 use clash::Rule;
 use model::put_model;
 use scan::Fault;

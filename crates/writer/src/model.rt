@@ -7,7 +7,7 @@ ghost use Rattle.emit.specs.Texts.{definitions_text, constraints_text, whole_tex
 
 use crate::ranges::put_declarations;
 use crate::starts::{LocationStarts, ValueStarts};
-use bytes::{Sink, put_text};
+use sinks::{Sink, put_text};
 use clash::Rule;
 use emit::{put_automata, put_numbers};
 use emit_choices::{ChoiceDefinitions, ChoiceSteps};

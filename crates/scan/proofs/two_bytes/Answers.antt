@@ -4,26 +4,26 @@ use Rattle.scan.specs.Scan.{pair}
 use Rattle.scan.proofs.Runs.{ask_ends, ask_goes, answers, run-done}
 use Rattle.scan.proofs.two_bytes.Goals as goal
 
-pub returns-in-err-high : goal.returns-in-err-high
+pub returns-in_err-high : goal.returns-in_err-high
 unfolding pair
-returns-in-err-high c =
-    let p = err_from_is_err_and c.from-residual.result c.from-residual.ensures.1 in
-    rw (p.1, p.2) (record { says = record { agree = ask_ends _ _ _ _ _ c.in-err-high.ensures }; within = tt })
+returns-in_err-high c =
+    let p = err_from_is_err_and c.from_residual.result c.from_residual.ensures.1 in
+    rw (p.1, p.2) (record { says = record { agree = ask_ends _ _ _ _ _ c.in_err-high.ensures }; within = tt })
 
-pub returns-in-err-low : goal.returns-in-err-low
+pub returns-in_err-low : goal.returns-in_err-low
 unfolding pair
-returns-in-err-low c =
-    let p = err_from_is_err_and c.from-residual-in-err-low.result c.from-residual-in-err-low.ensures.1 in
+returns-in_err-low c =
+    let p = err_from_is_err_and c.from_residual-in_err-low.result c.from_residual-in_err-low.ensures.1 in
     rw (p.1, p.2) (record {
-      says = record { agree = ask_goes _ _ _ _ _ c.in-ok-high.ensures ∙ ask_ends _ _ _ _ _ c.in-err-low.ensures };
+      says = record { agree = ask_goes _ _ _ _ _ c.in_ok-high.ensures ∙ ask_ends _ _ _ _ _ c.in_err-low.ensures };
       within = tt;
     })
 
 pub returns : goal.returns
 unfolding pair
 returns c =
-    let read = ask_goes _ _ _ _ _ c.in-ok-high.ensures ∙ ask_goes _ _ _ _ _ c.in-ok-low.ensures in
+    let read = ask_goes _ _ _ _ _ c.in_ok-high.ensures ∙ ask_goes _ _ _ _ _ c.in_ok-low.ensures in
     record {
-      says = answers _ _ _ _ _ (read ∙ run-done _ _ _) (sym c.from-be-bytes.ensures, refl);
-      within = c.in-ok-low.ensures.0;
+      says = answers _ _ _ _ _ (read ∙ run-done _ _ _) (sym c.from_be_bytes.ensures, refl);
+      within = c.in_ok-low.ensures.0;
     }

@@ -5,20 +5,20 @@ use Rattle.scan.specs.Scan.{zero_or_one}
 use Rattle.scan.proofs.Runs.{test_ends, test_passes, test_fails}
 use Rattle.scan.proofs.zero_or_one.Goals as goal
 
-pub returns-in-err-b : goal.returns-in-err-b
+pub returns-in_err-b : goal.returns-in_err-b
 unfolding zero_or_one
-returns-in-err-b c =
-    let p = err_from_is_err_and c.from-residual.result c.from-residual.ensures.1 in
-    rw (p.1, p.2) (record { says = test_ends _ _ _ _ _ _ c.in-err-b.ensures; within = tt })
+returns-in_err-b c =
+    let p = err_from_is_err_and c.from_residual.result c.from_residual.ensures.1 in
+    rw (p.1, p.2) (record { says = test_ends _ _ _ _ _ _ c.in_err-b.ensures; within = tt })
 
 pub returns-then-b-lt2 : goal.returns-then-b-lt2
 unfolding zero_or_one
 returns-then-b-lt2 c =
-    let h = c.in-ok-b.ensures in
+    let h = c.in_ok-b.ensures in
     record { says = test_passes _ _ _ _ _ _ h (grind (arith, nat_tests)); within = (h.0, c.if-b-lt2.true) }
 
 pub returns-else-b-lt2 : goal.returns-else-b-lt2
 unfolding zero_or_one
 returns-else-b-lt2 c =
-    let h = c.in-ok-b.ensures in
+    let h = c.in_ok-b.ensures in
     record { says = test_fails _ _ _ _ _ _ _ h (grind (arith, nat_tests)) c.broken.ensures; within = tt }

@@ -5,8 +5,8 @@ use Rattle.writer.specs.Answered.{file_text}
 use Rattle.writer.proofs.Texts.{shown_bounded}
 use Rattle.writer.proofs.write_view.Goals as goal
 
-pub write-of-requires : goal.write-of-requires
-write-of-requires g c =
+pub write_of-requires : goal.write_of-requires
+write_of-requires g c =
     let v = c.args.view in
     let R = g.R.Rule.rule in
     elim (cases_lt (length (file_text R v.file.now)) (2 ^ 64)) [

@@ -18,7 +18,7 @@ loop-k-preserved g c sys h =
     let under : k < length As = omega (arith, h.automata, c.loop-k-test.true) in
     let parts = c.part-parted.ensures (automaton sys k) (drop (k + 1) As) (subst (RowsOf c.loop-k.rows) (at_drop_more (rows_from k) As k idle under) inv.0) in (
       subst (λ i. RowsOf c.part-parted.result.rest (rows_from i (drop (k + 1) As))) (sym (add-one k)) parts.1,
-      turn g.S.Sink.step (λ k. g.P.AutomatonText.text c.args.piece.now k (automaton sys k)) _ k c.loop-k.s _ inv.1 (c.put.ensures (automaton sys k) (c.head-of-head.ensures sys h) parts.0),
+      turn g.S.Sink.step (λ k. g.P.AutomatonText.text c.args.piece.now k (automaton sys k)) _ k c.loop-k.s _ inv.1 (c.put.ensures (automaton sys k) (c.head_of-head.ensures sys h) parts.0),
     )
 
 pub returns : goal.returns

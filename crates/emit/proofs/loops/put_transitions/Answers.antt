@@ -1,5 +1,5 @@
 use Rattle.std.proofs.Common.{◌+◌, ◌<◌, length, subst, arith}
-use Rattle.bytes.proofs.Folds.{each_turn, each_done}
+use Rattle.sinks.proofs.Folds.{each_turn, each_done}
 use Rattle.view.specs.Shown.{RowsOf, TransitionShows}
 use Rattle.translation.specs.Systems.{idle_transition}
 use Rattle.emit.proofs.OwnRows.{own_here, own_next, own_length}

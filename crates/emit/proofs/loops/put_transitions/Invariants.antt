@@ -1,5 +1,5 @@
 use Rattle.std.proofs.Common.{◌≡◌, ℕ, ◌+◌, List, drop, fold}
-use Rattle.bytes.specs.Text.{each}
+use Rattle.sinks.specs.Text.{each}
 use Rattle.system.specs.System.{Transition}
 use Rattle.view.specs.Shown.{RowsOf}
 use Rattle.emit.specs.Own.{own_rows}

@@ -5,16 +5,16 @@ use Rattle.view.specs.Walk.{RowsAt}
 use Rattle.emit.proofs.OwnRows.{first_rows, own_front, own_after}
 use Rattle.emit.proofs.rows.part.Goals as goal
 
-pub invariant-of-result : goal.invariant-of-result
-invariant-of-result c =
+pub invariant_of-result : goal.invariant_of-result
+invariant_of-result c =
     let r = c.args.rows.now in
-    (∥∥₁_map r.stand (λ w. (take c.own-count-count.result w.0, first_rows r.file.now r.at r.left _ w.0 w.1 c.own-count-count.ensures.within)), tt)
+    (∥∥₁_map r.stand (λ w. (take c.own_count-count.result w.0, first_rows r.file.now r.at r.left _ w.0 w.1 c.own_count-count.ensures.within)), tt)
 
 pub returns : goal.returns
 returns c A As h =
     let r = c.args.rows.now in
-    let n = c.own-count-count.result in
-    let all = c.own-count-count.ensures.is A As h in (
-      subst (RowsAt r.file.now r.at n) (own_front c.args.k A As n all) (first_rows r.file.now r.at r.left n _ h c.own-count-count.ensures.within),
+    let n = c.own_count-count.result in
+    let all = c.own_count-count.ensures.is A As h in (
+      subst (RowsAt r.file.now r.at n) (own_front c.args.k A As n all) (first_rows r.file.now r.at r.left n _ h c.own_count-count.ensures.within),
       subst (RowsOf c.after.result) (own_after c.args.k A As n all) (c.after.ensures _ h),
     )

@@ -13,5 +13,5 @@ returns g c =
     let k = c.args.k in
     let es = c.args.alphabet.now in
     sent_as g.S.Sink.step c.args.s.now _ ((name_text (N.Two Transition k 0) ++ codes " := ") ∷ (print (outside es) ∷ [])) (codes ";\n") (stay_text k es)
-    (c.begin-definition.new.s, c.begin-definition.ensures, (c.put-outside.new.s, c.put-outside.ensures, c.put-text.ensures))
+    (c.begin_definition.new.s, c.begin_definition.ensures, (c.put_outside.new.s, c.put_outside.ensures, c.put_text.ensures))
     (append_assoc (name_text (N.Two Transition k 0)) (codes " := ") _)

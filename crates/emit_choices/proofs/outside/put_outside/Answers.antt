@@ -17,5 +17,5 @@ returns g c =
     let cut : xs ≡ get_or xs 0 0 ∷ drop 1 xs = drop_more xs 0 0 some in
     let rest : length xs - 1 ≡ length (drop 1 xs) = sym (length-drop 1 xs) in
     sent_as g.S.Sink.step c.args.s.now _ (replicate (length xs - 1) 40 ∷ (print (is_not N.Event (get_or xs 0 0)) ∷ [])) (flat_map further (drop 1 xs)) (print (outside xs))
-    (c.put-opening.new.s, c.put-opening.ensures, (c.put-compared.new.s, c.put-compared.ensures, c.put-further.ensures ∙ ap (λ ys. fold g.S.Sink.step c.put-compared.new.s (flat_map further ys)) (take_rest xs 1)))
+    (c.put_opening.new.s, c.put_opening.ensures, (c.put_compared.new.s, c.put_compared.ensures, c.put_further.ensures ∙ ap (λ ys. fold g.S.Sink.step c.put_compared.new.s (flat_map further ys)) (take_rest xs 1)))
     (ap (λ n. replicate n 40 ++ (print (is_not N.Event (get_or xs 0 0)) ++ flat_map further (drop 1 xs))) rest ∙ sym (outside-text (get_or xs 0 0) (drop 1 xs)) ∙ ap (λ ys. print (outside ys)) (sym cut))

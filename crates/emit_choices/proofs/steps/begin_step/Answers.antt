@@ -15,4 +15,4 @@ returns g c =
     sent g.S.Sink.step c.args.s.now _
     (codes "TRANS (" ∷ (print (is_not (N.One Choice k) j) ∷ (codes " | (" ∷ (name_text (N.Two Transition k j) ∷ (codes " & (next(" ∷ (name_text (N.One Location k) ∷ []))))))
     (codes ") = ")
-    (c.put-text.new.s, c.put-text.ensures, (c.put-compared.new.s, c.put-compared.ensures, (c.put-text-2.new.s, c.put-text-2.ensures, (c.put-name.new.s, c.put-name.ensures, (c.put-text-3.new.s, c.put-text-3.ensures, (c.put-name-2.new.s, c.put-name-2.ensures, c.put-text-4.ensures))))))
+    (c.put_text.new.s, c.put_text.ensures, (c.put_compared.new.s, c.put_compared.ensures, (c.put_text-2.new.s, c.put_text-2.ensures, (c.put_name.new.s, c.put_name.ensures, (c.put_text-3.new.s, c.put_text-3.ensures, (c.put_name-2.new.s, c.put_name-2.ensures, c.put_text-4.ensures))))))

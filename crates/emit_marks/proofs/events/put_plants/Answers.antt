@@ -13,5 +13,5 @@ pub returns : goal.returns
 returns g c sys h =
     let e = c.args.e in
     sent_as g.S.Sink.step c.args.s.now _ ((name_text (N.One PlantsOpen e) ++ codes " := ") ∷ (codes "(case " ∷ (up_to (length sys.automata) (λ k. plant_entry e k (automaton sys k)) ∷ []))) (last_text 1 ++ codes ";\n") (plants_text sys e)
-    (c.begin-definition.new.s, c.begin-definition.ensures, (c.put-text.new.s, c.put-text.ensures, (c.put-automata.new.s, c.put-automata.ensures sys h, c.put-text-2.ensures ∙ ap (fold g.S.Sink.step c.put-automata.new.s) last_one)))
+    (c.begin_definition.new.s, c.begin_definition.ensures, (c.put_text.new.s, c.put_text.ensures, (c.put_automata.new.s, c.put_automata.ensures sys h, c.put_text-2.ensures ∙ ap (fold g.S.Sink.step c.put_automata.new.s) last_one)))
     (append_assoc (name_text (N.One PlantsOpen e)) (codes " := ") _)

@@ -18,5 +18,5 @@ returns-then-mark-eq1 g c m is =
     let j = c.args.j in
     sent_if g.S.Sink.step c.args.s.now _ m (codes "(" ∷ (place ∷ (codes " = " ∷ (decimal j ∷ [])))) (codes ") : 1; ") (entry_text 1 (is_at (N.One Location c.args.k) j))
     (marked m (sym is ∙ c.if-mark-eq1.true))
-    (c.put-text.new.s, c.put-text.ensures, (c.put-name.new.s, c.put-name.ensures, (c.put-text-then-mark-eq1.new.s, c.put-text-then-mark-eq1.ensures, (c.put-number.new.s, c.put-number.ensures, c.put-text-then-mark-eq1-2.ensures))))
+    (c.put_text.new.s, c.put_text.ensures, (c.put_name.new.s, c.put_name.ensures, (c.put_text-then-mark-eq1.new.s, c.put_text-then-mark-eq1.ensures, (c.put_number.new.s, c.put_number.ensures, c.put_text-then-mark-eq1-2.ensures))))
     (entry_pieces place (codes " = ") (decimal j))

@@ -1,5 +1,5 @@
 use Rattle.std.proofs.Common.{◌≡◌, Bool, List, map, drop, fold}
-use Rattle.bytes.specs.Text.{each}
+use Rattle.sinks.specs.Text.{each}
 use Rattle.system.specs.Encode.{mark_byte}
 use Rattle.emit_marks.specs.Locations.{location_entry}
 use Rattle.emit_marks.proofs.marks.put_locations.Given as goal

@@ -10,5 +10,5 @@ pub returns : goal.returns
 returns g c sys rule h =
     let f = g.S.Sink.step in
     sent_as f c.args.s.now _ (codes "mk := (case " ∷ (of_automata sys rule unmarked_location ∷ (of_variables sys rule unmarked_value ∷ []))) (last_text 1 ++ codes ";\n") (marked_text sys rule)
-    (c.put-text.new.s, c.put-text.ensures, (c.put-automata.new.s, c.put-automata.ensures sys h, (c.put-numbers.new.s, c.put-numbers.ensures sys h ∙ ap (λ n. fold f c.put-automata.new.s (up_to n (λ i. unmarked_value i (variable sys i)))) h.variables, c.put-text-2.ensures ∙ ap (fold f c.put-numbers.new.s) last_one)))
+    (c.put_text.new.s, c.put_text.ensures, (c.put_automata.new.s, c.put_automata.ensures sys h, (c.put_numbers.new.s, c.put_numbers.ensures sys h ∙ ap (λ n. fold f c.put_automata.new.s (up_to n (λ i. unmarked_value i (variable sys i)))) h.variables, c.put_text-2.ensures ∙ ap (fold f c.put_numbers.new.s) last_one)))
     refl

@@ -8,4 +8,4 @@ use Rattle.emit_wishes.proofs.entries.begin_entry.Goals as goal
 
 pub returns : goal.returns
 returns g c =
-    sent g.S.Sink.step c.args.s.now _ (print (is_at (N.One Choice c.args.k) c.args.choice) ∷ []) (codes " : ") (c.put-compared.new.s, c.put-compared.ensures, c.put-text.ensures)
+    sent g.S.Sink.step c.args.s.now _ (print (is_at (N.One Choice c.args.k) c.args.choice) ∷ []) (codes " : ") (c.put_compared.new.s, c.put_compared.ensures, c.put_text.ensures)

@@ -5,17 +5,17 @@ use Rattle.emit_wishes.specs.Sought.{updates_from}
 use Rattle.emit_wishes.proofs.Searched.{from_here, from_next}
 use Rattle.emit_wishes.proofs.entries.from_variable.Goals as goal
 
-pub returns-then-is-first : goal.returns-then-is-first
-returns-then-is-first c us h =
+pub returns-then-is_first : goal.returns-then-is_first
+returns-then-is_first c us h =
     let inv = c.loop.invariant us h in
-    subst (UpdatesOf c.loop.rest) (sym (from_here c.args.i (drop c.loop.counter us) (c.if-is-first.ensures _ inv.0)) ∙ inv.1) inv.0
+    subst (UpdatesOf c.loop.rest) (sym (from_here c.args.i (drop c.loop.counter us) (c.if-is_first.ensures _ inv.0)) ∙ inv.1) inv.0
 
 pub loop-preserved : goal.loop-preserved
 loop-preserved c us h =
     let inv = c.loop.invariant us h in
     let more = drop-drop 1 c.loop.counter us in (
       subst (UpdatesOf c.rest-rest.result) more (c.rest-rest.ensures _ inv.0),
-      ap (updates_from c.args.i) (sym more) ∙ sym (from_next c.args.i (drop c.loop.counter us) (c.if-is-first.ensures _ inv.0)) ∙ inv.1,
+      ap (updates_from c.args.i) (sym more) ∙ sym (from_next c.args.i (drop c.loop.counter us) (c.if-is_first.ensures _ inv.0)) ∙ inv.1,
     )
 
 pub returns : goal.returns

@@ -8,5 +8,5 @@ pub returns : goal.returns
 returns g c =
     let x = name_text c.args.x in
     sent_as g.S.Sink.step c.args.s.now _ ((x ++ codes " := ") ∷ (name_text c.args.y ∷ [])) (codes ";\n") (defined c.args.x (name_text c.args.y))
-    (c.begin-definition.new.s, c.begin-definition.ensures, (c.put-name.new.s, c.put-name.ensures, c.put-text.ensures))
+    (c.begin_definition.new.s, c.begin_definition.ensures, (c.put_name.new.s, c.put_name.ensures, c.put_text.ensures))
     (append_assoc x (codes " := ") _)

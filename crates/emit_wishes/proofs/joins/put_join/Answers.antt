@@ -15,7 +15,7 @@ returns-then-k-eq0 g c =
     let k = c.args.k in
     let R = g.R.Rule.rule in
     sent_as g.S.Sink.step c.args.s.now _ (definition_text (N.Two JoinedStatus i k) (name (N.Two WishStatus i 0)) ∷ []) (definition_text (N.Two JoinedValue i k) (name (N.Two WishValue i 0))) (join_text R i k)
-    (c.put-copy.new.s, c.put-copy.ensures, c.put-copy-then-k-eq0.ensures)
+    (c.put_copy.new.s, c.put_copy.ensures, c.put_copy-then-k-eq0.ensures)
     (join_first R i k c.if-k-eq0.true)
 
 pub returns : goal.returns
@@ -29,8 +29,8 @@ returns g c =
     let y = N.Two JoinedValue i k in
     let later : 0 < k = omega arith in
     sent_as f s _ (definition_text x (written (join_name i (k - 1)) R.joined_status) ∷ []) (definition_text y (written (join_name i (k - 1)) R.joined_value)) (join_text R i k) (
-      c.put-term.new.s,
-      c.put-term.ensures R.joined_status c.joined-status-term-joined-status.ensures ∙ ap (λ z. fold f s (defined x z)) (text_written (join_name i (k - 1)) R.joined_status),
-      c.put-term-2.ensures R.joined_value c.joined-value-term-joined-value.ensures ∙ ap (λ z. fold f c.put-term.new.s (defined y z)) (text_written (join_name i (k - 1)) R.joined_value),
+      c.put_term.new.s,
+      c.put_term.ensures R.joined_status c.joined_status_term-joined_status.ensures ∙ ap (λ z. fold f s (defined x z)) (text_written (join_name i (k - 1)) R.joined_status),
+      c.put_term-2.ensures R.joined_value c.joined_value_term-joined_value.ensures ∙ ap (λ z. fold f c.put_term.new.s (defined y z)) (text_written (join_name i (k - 1)) R.joined_value),
     )
     (join_later R i k later)

@@ -10,5 +10,5 @@ returns g c e h =
     let x = name_text c.args.x in
     let body = text_of (g.N.Names.name c.args.names.now) e in
     sent_as g.S.Sink.step c.args.s.now _ ((x ++ codes " := ") ∷ (body ∷ [])) (codes ";\n") (defined c.args.x body)
-    (c.begin-definition.new.s, c.begin-definition.ensures, (c.put.new.s, c.put.ensures e h, c.put-text.ensures))
+    (c.begin_definition.new.s, c.begin_definition.ensures, (c.put.new.s, c.put.ensures e h, c.put_text.ensures))
     (append_assoc x (codes " := ") _)

@@ -4,23 +4,23 @@ use Rattle.expr.specs.Expr.{term}
 use Rattle.expr.proofs.Lengths.{sized_none, sized_bad, sized_read, ended_within}
 use Rattle.expr.proofs.check.term_at.Goals as goal
 
-pub returns-in-err-end : goal.returns-in-err-end
-returns-in-err-end c =
-    let p = err_from_is_err_and c.from-residual.result c.from-residual.ensures.1 in
-    rw (p.1, p.2) (record { says = record { agree = sized_none _ _ _ term _ _ c.in-err-end.ensures }; within = tt })
+pub returns-in_err-end : goal.returns-in_err-end
+returns-in_err-end c =
+    let p = err_from_is_err_and c.from_residual.result c.from_residual.ensures.1 in
+    rw (p.1, p.2) (record { says = record { agree = sized_none _ _ _ term _ _ c.in_err-end.ensures }; within = tt })
 
-pub returns-in-err-stop : goal.returns-in-err-stop
-returns-in-err-stop c =
-    let p = err_from_is_err_and c.from-residual-in-err-stop.result c.from-residual-in-err-stop.ensures.1 in
+pub returns-in_err-stop : goal.returns-in_err-stop
+returns-in_err-stop c =
+    let p = err_from_is_err_and c.from_residual-in_err-stop.result c.from_residual-in_err-stop.ensures.1 in
     rw (p.1, p.2) (record {
-      says = record { agree = sized_bad _ _ _ term _ _ c.in-ok-end.ensures _ c.in-err-stop.ensures.says };
+      says = record { agree = sized_bad _ _ _ term _ _ c.in_ok-end.ensures _ c.in_err-stop.ensures.says };
       within = tt;
     })
 
 pub returns : goal.returns
 returns c =
-    let h = c.in-ok-stop.ensures.within in
+    let h = c.in_ok-stop.ensures.within in
     record {
-      says = sized_read _ _ _ term _ _ c.in-ok-end.ensures _ _ c.in-ok-stop.ensures.says h.2 c.whole.ensures;
+      says = sized_read _ _ _ term _ _ c.in_ok-end.ensures _ _ c.in_ok-stop.ensures.says h.2 c.whole.ensures;
       within = ended_within _ _ _ _ _ _ (omega arith) h.2 c.whole.ensures;
     }

@@ -4,91 +4,91 @@ use Rattle.expr.proofs.Places.{join_two, test_two, sum_two, two_first, two_secon
 use Rattle.expr.proofs.Evals.{within-sum, within_more, within-either, same, term_done, literal_done, chosen}
 use Rattle.expr.proofs.eval.+guard_value_term_value.Goals as goal
 
-pub guard-value-guard-value-a-requires : goal.guard-value-guard-value-a-requires
-guard-value-guard-value-a-requires t c = (omega arith, (c.requires.long, not_first _ _ c.in-Not.ensures c.requires.standing))
+pub guard_value-guard_value-a-requires : goal.guard_value-guard_value-a-requires
+guard_value-guard_value-a-requires t c = (omega arith, (c.requires.long, not_first _ _ c.in-Not.ensures c.requires.standing))
 
-pub guard-value-guard-value-a-requires-in-Join : goal.guard-value-guard-value-a-requires-in-Join
-guard-value-guard-value-a-requires-in-Join t c =
+pub guard_value-guard_value-a-requires-in-Join : goal.guard_value-guard_value-a-requires-in-Join
+guard_value-guard_value-a-requires-in-Join t c =
     (omega arith, (c.requires.long, two_first _ _ _ (join_two _ _ _ c.in-Join.ensures) c.requires.standing))
 
-pub guard-value-guard-value-b-requires : goal.guard-value-guard-value-b-requires
-guard-value-guard-value-b-requires t c =
-    (omega arith, (c.requires.long, two_second _ _ _ (join_two _ _ _ c.in-Join.ensures) _ _ c.guard-value-a-in-Join.ensures c.requires.standing))
+pub guard_value-guard_value-b-requires : goal.guard_value-guard_value-b-requires
+guard_value-guard_value-b-requires t c =
+    (omega arith, (c.requires.long, two_second _ _ _ (join_two _ _ _ c.in-Join.ensures) _ _ c.guard_value-a-in-Join.ensures c.requires.standing))
 
-pub guard-value-term-value-a-requires : goal.guard-value-term-value-a-requires
-guard-value-term-value-a-requires t c =
+pub guard_value_term_value-a-requires : goal.guard_value_term_value-a-requires
+guard_value_term_value-a-requires t c =
     (omega arith, (c.requires.long, two_first _ _ _ (test_two _ _ _ c.in-Test.ensures) c.requires.standing))
 
-pub guard-value-term-value-b-requires : goal.guard-value-term-value-b-requires
-guard-value-term-value-b-requires t c =
-    (omega arith, (c.requires.long, two_second _ _ _ (test_two _ _ _ c.in-Test.ensures) _ _ c.term-value-a.ensures.spans c.requires.standing))
+pub guard_value_term_value-b-requires : goal.guard_value_term_value-b-requires
+guard_value_term_value-b-requires t c =
+    (omega arith, (c.requires.long, two_second _ _ _ (test_two _ _ _ c.in-Test.ensures) _ _ c.term_value-a.ensures.spans c.requires.standing))
 
-pub guard-value-unreachable-requires : goal.guard-value-unreachable-requires
-guard-value-unreachable-requires t c = no_guard _ _ c.in-Unknown.ensures c.requires.standing
+pub guard_value-unreachable-requires : goal.guard_value-unreachable-requires
+guard_value-unreachable-requires t c = no_guard _ _ c.in-Unknown.ensures c.requires.standing
 
-pub guard-value-returns-in-Truth : goal.guard-value-returns-in-Truth
-guard-value-returns-in-Truth t c = truth_spans _ _ _ _ c.in-Truth.ensures c.requires.standing refl
+pub guard_value-returns-in-Truth : goal.guard_value-returns-in-Truth
+guard_value-returns-in-Truth t c = truth_spans _ _ _ _ c.in-Truth.ensures c.requires.standing refl
 
-pub guard-value-returns-in-Not : goal.guard-value-returns-in-Not
-guard-value-returns-in-Not t c = not_spans _ _ c.in-Not.ensures _ _ _ c.guard-value-a.ensures (λ a p. ap not p)
+pub guard_value-returns-in-Not : goal.guard_value-returns-in-Not
+guard_value-returns-in-Not t c = not_spans _ _ c.in-Not.ensures _ _ _ c.guard_value-a.ensures (λ a p. ap not p)
 
-pub guard-value-returns-in-Join : goal.guard-value-returns-in-Join
-guard-value-returns-in-Join t c =
-    two_spans _ _ _ (join_two _ _ _ c.in-Join.ensures) _ _ c.guard-value-a-in-Join.ensures _ _ _ c.guard-value-b.ensures
+pub guard_value-returns-in-Join : goal.guard_value-returns-in-Join
+guard_value-returns-in-Join t c =
+    two_spans _ _ _ (join_two _ _ _ c.in-Join.ensures) _ _ c.guard_value-a-in-Join.ensures _ _ _ c.guard_value-b.ensures
     (λ a b p q. c.join.ensures ∙ ap₂ (joined c.in-Join.joint) p q)
 
-pub guard-value-returns-in-Test : goal.guard-value-returns-in-Test
-guard-value-returns-in-Test t c =
-    let one = c.term-value-a.ensures in
-    let two = c.term-value-b.ensures in
+pub guard_value-returns-in-Test : goal.guard_value-returns-in-Test
+guard_value-returns-in-Test t c =
+    let one = c.term_value-a.ensures in
+    let two = c.term_value-b.ensures in
     let a = same _ _ (omega (arith, one.spans.within)) one.bound in
     let b = same _ _ (omega (arith, two.spans.within)) two.bound in
     two_spans _ _ _ (test_two _ _ _ c.in-Test.ensures) _ _ one.spans _ _ _ two.spans
     (λ x y p q. c.test.ensures ∙ ap₂ (tested c.in-Test.order) (a ∙ p) (b ∙ q))
 
-pub term-value-literal-requires : goal.term-value-literal-requires
-term-value-literal-requires t c = omega (arith, literal_within _ _ c.in-Literal.ensures c.requires.standing)
+pub term_value-literal-requires : goal.term_value-literal-requires
+term_value-literal-requires t c = omega (arith, literal_within _ _ c.in-Literal.ensures c.requires.standing)
 
-pub term-value-bounds-s-at-in-Variable : goal.term-value-bounds-s-at-in-Variable
-term-value-bounds-s-at-in-Variable t c = variable_within _ _ c.in-Variable.ensures c.requires.standing
+pub term_value-bounds-s-at-in-Variable : goal.term_value-bounds-s-at-in-Variable
+term_value-bounds-s-at-in-Variable t c = variable_within _ _ c.in-Variable.ensures c.requires.standing
 
-pub term-value-term-value-a-requires : goal.term-value-term-value-a-requires
-term-value-term-value-a-requires t c =
+pub term_value-term_value-a-requires : goal.term_value-term_value-a-requires
+term_value-term_value-a-requires t c =
     (omega arith, (c.requires.long, two_first _ _ _ (sum_two _ _ _ c.in-Sum.ensures) c.requires.standing))
 
-pub term-value-term-value-b-requires : goal.term-value-term-value-b-requires
-term-value-term-value-b-requires t c =
-    (omega arith, (c.requires.long, two_second _ _ _ (sum_two _ _ _ c.in-Sum.ensures) _ _ c.term-value-a.ensures.spans c.requires.standing))
+pub term_value-term_value-b-requires : goal.term_value-term_value-b-requires
+term_value-term_value-b-requires t c =
+    (omega arith, (c.requires.long, two_second _ _ _ (sum_two _ _ _ c.in-Sum.ensures) _ _ c.term_value-a.ensures.spans c.requires.standing))
 
-pub term-value-guard-value-g-requires : goal.term-value-guard-value-g-requires
-term-value-guard-value-g-requires t c = (omega arith, (c.requires.long, case_first _ _ c.in-Case.ensures c.requires.standing))
+pub term_value-guard_value-g-requires : goal.term_value-guard_value-g-requires
+term_value-guard_value-g-requires t c = (omega arith, (c.requires.long, case_first _ _ c.in-Case.ensures c.requires.standing))
 
-pub term-value-term-value-a-requires-in-Case : goal.term-value-term-value-a-requires-in-Case
-term-value-term-value-a-requires-in-Case t c =
-    (omega arith, (c.requires.long, case_second _ _ c.in-Case.ensures _ _ c.guard-value-g.ensures c.requires.standing))
+pub term_value-term_value-a-requires-in-Case : goal.term_value-term_value-a-requires-in-Case
+term_value-term_value-a-requires-in-Case t c =
+    (omega arith, (c.requires.long, case_second _ _ c.in-Case.ensures _ _ c.guard_value-g.ensures c.requires.standing))
 
-pub term-value-term-value-b-requires-in-Case : goal.term-value-term-value-b-requires-in-Case
-term-value-term-value-b-requires-in-Case t c =
-    (omega arith, (c.requires.long, case_third _ _ c.in-Case.ensures _ _ c.guard-value-g.ensures _ _ c.term-value-a-in-Case.ensures.spans c.requires.standing))
+pub term_value-term_value-b-requires-in-Case : goal.term_value-term_value-b-requires-in-Case
+term_value-term_value-b-requires-in-Case t c =
+    (omega arith, (c.requires.long, case_third _ _ c.in-Case.ensures _ _ c.guard_value-g.ensures _ _ c.term_value-a-in-Case.ensures.spans c.requires.standing))
 
-pub term-value-unreachable-requires : goal.term-value-unreachable-requires
-term-value-unreachable-requires t c = no_term _ _ c.in-Unknown.ensures c.requires.standing
+pub term_value-unreachable-requires : goal.term_value-unreachable-requires
+term_value-unreachable-requires t c = no_term _ _ c.in-Unknown.ensures c.requires.standing
 
-pub term-value-returns-in-Literal : goal.term-value-returns-in-Literal
-term-value-returns-in-Literal t c =
-    literal_done _ _ c.requires.long _ _ c.literal.result (record { sfits = c.literal.type-inv }) (omega arith)
+pub term_value-returns-in-Literal : goal.term_value-returns-in-Literal
+term_value-returns-in-Literal t c =
+    literal_done _ _ c.requires.long _ _ c.literal.result (record { sfits = c.literal.type_inv }) (omega arith)
     (literal_spans _ _ c.in-Literal.ensures _ c.requires.standing c.literal.ensures)
 
-pub term-value-returns-in-Variable : goal.term-value-returns-in-Variable
-term-value-returns-in-Variable t c =
+pub term_value-returns-in-Variable : goal.term_value-returns-in-Variable
+term_value-returns-in-Variable t c =
     term_done _ _ c.requires.long _ _ _
     (variable_spans _ _ c.in-Variable.ensures _ c.requires.standing c.variable.ensures.value)
     (within_more 2 _ _ c.variable.ensures.bound (omega arith))
 
-pub term-value-returns-in-Sum : goal.term-value-returns-in-Sum
-term-value-returns-in-Sum t c =
-    let one = c.term-value-a.ensures in
-    let two = c.term-value-b.ensures in
+pub term_value-returns-in-Sum : goal.term_value-returns-in-Sum
+term_value-returns-in-Sum t c =
+    let one = c.term_value-a.ensures in
+    let two = c.term_value-b.ensures in
     let a = same _ _ (omega (arith, one.spans.within)) one.bound in
     let b = same _ _ (omega (arith, two.spans.within)) two.bound in
     let is = c.sum.ensures ∙ ap₂ (summed c.in-Sum.sign) a b in
@@ -96,14 +96,14 @@ term-value-returns-in-Sum t c =
     (two_spans _ _ _ (sum_two _ _ _ c.in-Sum.ensures) _ _ one.spans _ _ _ two.spans (λ x y p q. is ∙ ap₂ (summed c.in-Sum.sign) p q))
     (rw is (within-sum _ _ _ _ _ _ one.bound two.bound (omega (arith, one.spans.past, two.spans.past))))
 
-pub term-value-returns-in-Case : goal.term-value-returns-in-Case
-term-value-returns-in-Case t c =
-    let if = c.guard-value-g.ensures in
-    let one = c.term-value-a-in-Case.ensures in
-    let two = c.term-value-b-in-Case.ensures in
+pub term_value-returns-in-Case : goal.term_value-returns-in-Case
+term_value-returns-in-Case t c =
+    let if = c.guard_value-g.ensures in
+    let one = c.term_value-a-in-Case.ensures in
+    let two = c.term_value-b-in-Case.ensures in
     let a = same _ _ (omega (arith, one.spans.within)) one.bound in
     let b = same _ _ (omega (arith, two.spans.within)) two.bound in
-    let is = c.choose.ensures ∙ ap₂ (cond c.guard-value-g.result.0) a b in
+    let is = c.choose.ensures ∙ ap₂ (cond c.guard_value-g.result.0) a b in
     term_done _ _ c.requires.long _ _ _
     (case_spans _ _ c.in-Case.ensures _ _ if _ _ one.spans _ _ _ two.spans (λ g x y o p q. is ∙ chosen _ _ _ _ _ _ o p q))
     (rw is (within-either _ _ _ _ _ _ one.bound two.bound (omega (arith, if.past, two.spans.past)) (omega (arith, if.past, one.spans.past))))

@@ -5,17 +5,17 @@ use Rattle.scan.proofs.Loops.{going_all}
 use Rattle.system.proofs.Sections.{alphabet_bad, alphabet_read}
 use Rattle.system.proofs.automata.check_alphabet.Goals as goal
 
-pub returns-in-err-e : goal.returns-in-err-e
-returns-in-err-e c =
-    let p = err_from_is_err_and c.from-residual.result c.from-residual.ensures.1 in
+pub returns-in_err-e : goal.returns-in_err-e
+returns-in_err-e c =
+    let p = err_from_is_err_and c.from_residual.result c.from_residual.ensures.1 in
     rw (p.1, p.2) (record {
-      says = record { agree = alphabet_bad _ _ _ _ _ _ _ _ c.loop-k-test.true c.loop-k.invariant.0 c.in-err-e.ensures.says };
+      says = record { agree = alphabet_bad _ _ _ _ _ _ _ _ c.loop-k-test.true c.loop-k.invariant.0 c.in_err-e.ensures.says };
       within = tt;
     })
 
 pub loop-k-preserved : goal.loop-k-preserved
 loop-k-preserved c =
-    let h = c.in-ok-e.ensures in
+    let h = c.in_ok-e.ensures in
     (alphabet_read _ _ _ _ _ _ _ _ c.loop-k-test.true c.loop-k.invariant.0 h.says h.within.2, omega (arith, h.within.0))
 
 pub returns : goal.returns

@@ -5,79 +5,79 @@ use Rattle.system.specs.Scan.{head_row}
 use Rattle.system.proofs.Sections.{bytes_bad, bytes_read, bytes_pass}
 use Rattle.system.proofs.automata.check_head.Goals as goal
 
-pub returns-in-err-zero-or-one : goal.returns-in-err-zero-or-one
+pub returns-in_err-zero_or_one : goal.returns-in_err-zero_or_one
 unfolding head_row
-returns-in-err-zero-or-one c =
-    let p = err_from_is_err_and c.from-residual.result c.from-residual.ensures.1 in
+returns-in_err-zero_or_one c =
+    let p = err_from_is_err_and c.from_residual.result c.from_residual.ensures.1 in
     rw (p.1, p.2) (record {
-      says = record { agree = byte_bad _ _ _ _ _ c.in-err-zero-or-one.ensures.says };
+      says = record { agree = byte_bad _ _ _ _ _ c.in_err-zero_or_one.ensures.says };
       within = tt;
     })
 
-pub returns-in-err-locations : goal.returns-in-err-locations
+pub returns-in_err-locations : goal.returns-in_err-locations
 unfolding head_row
-returns-in-err-locations c =
-    let p = err_from_is_err_and c.from-residual-in-err-locations.result c.from-residual-in-err-locations.ensures.1 in
+returns-in_err-locations c =
+    let p = err_from_is_err_and c.from_residual-in_err-locations.result c.from_residual-in_err-locations.ensures.1 in
     rw (p.1, p.2) (record {
       says = record {
-        agree = byte_then _ _ _ _ _ (c.args.at + 1) (omega arith) c.in-ok-zero-or-one.ensures.says
-            ∙ byte_bad _ _ _ _ _ c.in-err-locations.ensures.says;
+        agree = byte_then _ _ _ _ _ (c.args.at + 1) (omega arith) c.in_ok-zero_or_one.ensures.says
+            ∙ byte_bad _ _ _ _ _ c.in_err-locations.ensures.says;
       };
       within = tt;
     })
 
-pub returns-in-err-number : goal.returns-in-err-number
+pub returns-in_err-number : goal.returns-in_err-number
 unfolding head_row
-returns-in-err-number c =
-    let p = err_from_is_err_and c.from-residual-in-err-number.result c.from-residual-in-err-number.ensures.1 in
+returns-in_err-number c =
+    let p = err_from_is_err_and c.from_residual-in_err-number.result c.from_residual-in_err-number.ensures.1 in
     rw (p.1, p.2) (record {
       says = record {
-        agree = byte_then _ _ _ _ _ (c.args.at + 1) (omega arith) c.in-ok-zero-or-one.ensures.says
-            ∙ byte_then _ _ _ _ _ (c.args.at + 2) (omega arith) c.in-ok-locations.ensures.says
-            ∙ byte_bad _ _ _ _ _ c.in-err-number.ensures.says;
+        agree = byte_then _ _ _ _ _ (c.args.at + 1) (omega arith) c.in_ok-zero_or_one.ensures.says
+            ∙ byte_then _ _ _ _ _ (c.args.at + 2) (omega arith) c.in_ok-locations.ensures.says
+            ∙ byte_bad _ _ _ _ _ c.in_err-number.ensures.says;
       };
       within = tt;
     })
 
-pub returns-in-err-check-marks : goal.returns-in-err-check-marks
+pub returns-in_err-check_marks : goal.returns-in_err-check_marks
 unfolding head_row
-returns-in-err-check-marks c =
-    let p = err_from_is_err_and c.from-residual-in-err-check-marks.result c.from-residual-in-err-check-marks.ensures.1 in
+returns-in_err-check_marks c =
+    let p = err_from_is_err_and c.from_residual-in_err-check_marks.result c.from_residual-in_err-check_marks.ensures.1 in
     rw (p.1, p.2) (record {
       says = record {
-        agree = byte_then _ _ _ _ _ (c.args.at + 1) (omega arith) c.in-ok-zero-or-one.ensures.says
-            ∙ byte_then _ _ _ _ _ (c.args.at + 2) (omega arith) c.in-ok-locations.ensures.says
-            ∙ byte_then _ _ _ _ _ (c.args.at + 3) (omega arith) c.in-ok-number.ensures.says
-            ∙ bytes_bad _ _ _ _ _ _ c.in-err-check-marks.ensures.says;
+        agree = byte_then _ _ _ _ _ (c.args.at + 1) (omega arith) c.in_ok-zero_or_one.ensures.says
+            ∙ byte_then _ _ _ _ _ (c.args.at + 2) (omega arith) c.in_ok-locations.ensures.says
+            ∙ byte_then _ _ _ _ _ (c.args.at + 3) (omega arith) c.in_ok-number.ensures.says
+            ∙ bytes_bad _ _ _ _ _ _ c.in_err-check_marks.ensures.says;
       };
       within = tt;
     })
 
-pub returns-in-err-size : goal.returns-in-err-size
+pub returns-in_err-size : goal.returns-in_err-size
 unfolding head_row
-returns-in-err-size c =
-    let p = err_from_is_err_and c.from-residual-in-err-size.result c.from-residual-in-err-size.ensures.1 in
+returns-in_err-size c =
+    let p = err_from_is_err_and c.from_residual-in_err-size.result c.from_residual-in_err-size.ensures.1 in
     rw (p.1, p.2) (record {
       says = record {
-        agree = byte_then _ _ _ _ _ (c.args.at + 1) (omega arith) c.in-ok-zero-or-one.ensures.says
-            ∙ byte_then _ _ _ _ _ (c.args.at + 2) (omega arith) c.in-ok-locations.ensures.says
-            ∙ byte_then _ _ _ _ _ (c.args.at + 3) (omega arith) c.in-ok-number.ensures.says
-            ∙ bytes_read _ _ _ _ _ _ c.in-ok-check-marks.ensures.says (λ xs0. byte_bad _ _ _ _ _ c.in-err-size.ensures.says);
+        agree = byte_then _ _ _ _ _ (c.args.at + 1) (omega arith) c.in_ok-zero_or_one.ensures.says
+            ∙ byte_then _ _ _ _ _ (c.args.at + 2) (omega arith) c.in_ok-locations.ensures.says
+            ∙ byte_then _ _ _ _ _ (c.args.at + 3) (omega arith) c.in_ok-number.ensures.says
+            ∙ bytes_read _ _ _ _ _ _ c.in_ok-check_marks.ensures.says (λ xs0. byte_bad _ _ _ _ _ c.in_err-size.ensures.says);
       };
       within = tt;
     })
 
-pub returns-in-err-check-alphabet : goal.returns-in-err-check-alphabet
+pub returns-in_err-check_alphabet : goal.returns-in_err-check_alphabet
 unfolding head_row
-returns-in-err-check-alphabet c =
-    let p = err_from_is_err_and c.from-residual-in-err-check-alphabet.result c.from-residual-in-err-check-alphabet.ensures.1 in
+returns-in_err-check_alphabet c =
+    let p = err_from_is_err_and c.from_residual-in_err-check_alphabet.result c.from_residual-in_err-check_alphabet.ensures.1 in
     rw (p.1, p.2) (record {
       says = record {
-        agree = byte_then _ _ _ _ _ (c.args.at + 1) (omega arith) c.in-ok-zero-or-one.ensures.says
-            ∙ byte_then _ _ _ _ _ (c.args.at + 2) (omega arith) c.in-ok-locations.ensures.says
-            ∙ byte_then _ _ _ _ _ (c.args.at + 3) (omega arith) c.in-ok-number.ensures.says
-            ∙ bytes_read _ _ _ _ _ _ c.in-ok-check-marks.ensures.says (λ xs0. byte_then _ _ _ _ _ (c.args.at + 3 + c.in-ok-locations.locations + 1) (omega arith) c.in-ok-size.ensures.says
-            ∙ bytes_bad _ _ _ _ _ _ c.in-err-check-alphabet.ensures.says);
+        agree = byte_then _ _ _ _ _ (c.args.at + 1) (omega arith) c.in_ok-zero_or_one.ensures.says
+            ∙ byte_then _ _ _ _ _ (c.args.at + 2) (omega arith) c.in_ok-locations.ensures.says
+            ∙ byte_then _ _ _ _ _ (c.args.at + 3) (omega arith) c.in_ok-number.ensures.says
+            ∙ bytes_read _ _ _ _ _ _ c.in_ok-check_marks.ensures.says (λ xs0. byte_then _ _ _ _ _ (c.args.at + 3 + c.in_ok-locations.locations + 1) (omega arith) c.in_ok-size.ensures.says
+            ∙ bytes_bad _ _ _ _ _ _ c.in_err-check_alphabet.ensures.says);
       };
       within = tt;
     })
@@ -85,12 +85,12 @@ returns-in-err-check-alphabet c =
 pub returns : goal.returns
 unfolding head_row
 returns c =
-    let h = c.in-ok-check-alphabet.ensures.within in
+    let h = c.in_ok-check_alphabet.ensures.within in
     record {
-      says = says_by _ _ _ _ (byte_then _ _ _ _ _ (c.args.at + 1) (omega arith) c.in-ok-zero-or-one.ensures.says
-          ∙ byte_then _ _ _ _ _ (c.args.at + 2) (omega arith) c.in-ok-locations.ensures.says
-          ∙ byte_then _ _ _ _ _ (c.args.at + 3) (omega arith) c.in-ok-number.ensures.says)
-          (bytes_pass _ _ _ _ _ _ _ c.in-ok-check-marks.ensures.says (λ marks. says_by _ _ _ _ (byte_then _ _ _ _ _ (c.args.at + 3 + c.in-ok-locations.locations + 1) (omega arith) c.in-ok-size.ensures.says)
-          (bytes_pass _ _ _ _ _ _ _ c.in-ok-check-alphabet.ensures.says (λ alphabet. answers _ _ _ _ _ (run-done _ _ _) refl))));
+      says = says_by _ _ _ _ (byte_then _ _ _ _ _ (c.args.at + 1) (omega arith) c.in_ok-zero_or_one.ensures.says
+          ∙ byte_then _ _ _ _ _ (c.args.at + 2) (omega arith) c.in_ok-locations.ensures.says
+          ∙ byte_then _ _ _ _ _ (c.args.at + 3) (omega arith) c.in_ok-number.ensures.says)
+          (bytes_pass _ _ _ _ _ _ _ c.in_ok-check_marks.ensures.says (λ marks. says_by _ _ _ _ (byte_then _ _ _ _ _ (c.args.at + 3 + c.in_ok-locations.locations + 1) (omega arith) c.in_ok-size.ensures.says)
+          (bytes_pass _ _ _ _ _ _ _ c.in_ok-check_alphabet.ensures.says (λ alphabet. answers _ _ _ _ _ (run-done _ _ _) refl))));
       within = h;
     }

@@ -5,17 +5,17 @@ use Rattle.scan.proofs.Loops.{going_all, going_bad}
 use Rattle.system.proofs.Sections.{mark_bad, mark_read}
 use Rattle.system.proofs.automata.check_marks.Goals as goal
 
-pub returns-in-err-zero-or-one : goal.returns-in-err-zero-or-one
-returns-in-err-zero-or-one c =
-    let p = err_from_is_err_and c.from-residual.result c.from-residual.ensures.1 in
+pub returns-in_err-zero_or_one : goal.returns-in_err-zero_or_one
+returns-in_err-zero_or_one c =
+    let p = err_from_is_err_and c.from_residual.result c.from_residual.ensures.1 in
     rw (p.1, p.2) (record {
-      says = record { agree = going_bad _ _ _ _ _ _ _ _ c.loop-k-test.true c.loop-k.invariant.0 (mark_bad _ _ _ _ c.in-err-zero-or-one.ensures.says) };
+      says = record { agree = going_bad _ _ _ _ _ _ _ _ c.loop-k-test.true c.loop-k.invariant.0 (mark_bad _ _ _ _ c.in_err-zero_or_one.ensures.says) };
       within = tt;
     })
 
 pub loop-k-preserved : goal.loop-k-preserved
 loop-k-preserved c =
-    let h = c.in-ok-zero-or-one.ensures in
+    let h = c.in_ok-zero_or_one.ensures in
     (mark_read _ _ _ _ _ _ c.loop-k-test.true c.loop-k.invariant.0 h.says, omega (arith, h.within.0))
 
 pub returns : goal.returns

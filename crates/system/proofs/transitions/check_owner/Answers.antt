@@ -6,17 +6,17 @@ use Rattle.system.specs.Scan.{owner}
 use Rattle.system.proofs.Numbers.{both_bad, both_fails, both_read}
 use Rattle.system.proofs.transitions.check_owner.Goals as goal
 
-pub returns-in-err-k : goal.returns-in-err-k
+pub returns-in_err-k : goal.returns-in_err-k
 unfolding owner
-returns-in-err-k c =
-    let p = err_from_is_err_and c.from-residual.result c.from-residual.ensures.1 in
-    rw (p.1, p.2) (record { says = record { agree = both_bad _ _ _ _ _ _ _ c.in-err-k.ensures.says }; within = tt })
+returns-in_err-k c =
+    let p = err_from_is_err_and c.from_residual.result c.from_residual.ensures.1 in
+    rw (p.1, p.2) (record { says = record { agree = both_bad _ _ _ _ _ _ _ c.in_err-k.ensures.says }; within = tt })
 
 pub returns-then-floor-k : goal.returns-then-floor-k
 unfolding owner
 returns-then-floor-k c =
-    let h = c.in-ok-k.ensures in
-    let high : c.args.floor ≤ suc c.in-ok-k.k = omega (arith, c.if-floor-k.true) in
+    let h = c.in_ok-k.ensures in
+    let high : c.args.floor ≤ suc c.in_ok-k.k = omega (arith, c.if-floor-k.true) in
     record {
       says = both_read _ _ _ _ _ _ _ h.says (le-leb _ _ high);
       within = (h.within.0, h.within.1, high);
@@ -25,8 +25,8 @@ returns-then-floor-k c =
 pub returns-else-floor-k : goal.returns-else-floor-k
 unfolding owner
 returns-else-floor-k c =
-    let low : suc c.in-ok-k.k < c.args.floor = omega (arith, c.if-floor-k.false) in
+    let low : suc c.in_ok-k.k < c.args.floor = omega (arith, c.if-floor-k.false) in
     record {
-      says = record { agree = both_fails _ _ _ _ _ _ _ c.in-ok-k.ensures.says (lt-leb _ _ low) ∙ ap bad (sym c.broken.ensures) };
+      says = record { agree = both_fails _ _ _ _ _ _ _ c.in_ok-k.ensures.says (lt-leb _ _ low) ∙ ap bad (sym c.broken.ensures) };
       within = tt;
     }

@@ -2,10 +2,10 @@ use mathlib.Core.Logic.{∥∥₁_map}
 use Rattle.view.proofs.RowParts.{row_parts, guard_coded}
 use Rattle.view.proofs.step.row_at.Goals as goal
 
-pub invariant-of-result : goal.invariant-of-result
-invariant-of-result c = (∥∥₁_map c.requires.some (λ w. (w.0.transition.guard, guard_coded _ _ w.0 w.1)), tt)
+pub invariant_of-result : goal.invariant_of-result
+invariant_of-result c = (∥∥₁_map c.requires.some (λ w. (w.0.transition.guard, guard_coded _ _ w.0 w.1)), tt)
 
 pub returns : goal.returns
 returns c t h =
     let p = row_parts _ _ t h in
-    record { owner = p.owner; from = p.from; event = p.event; to = p.to; guard = guard_coded _ _ t h; updates = c.updates-at.ensures.are t h }
+    record { owner = p.owner; from = p.from; event = p.event; to = p.to; guard = guard_coded _ _ t h; updates = c.updates_at.ensures.are t h }

@@ -6,4 +6,4 @@ pub returns-then-at-s : goal.returns-then-at-s
 returns-then-at-s c = stops_past c.args.s.now c.args.at (omega arith)
 
 pub returns : goal.returns
-returns c = stops_there c.args.s.now c.args.at _ (omega arith) c.stop-byte.ensures
+returns c = stops_there c.args.s.now c.args.at _ (omega arith) c.stop_byte.ensures

@@ -11,4 +11,4 @@ returns g c sys R h =
     sent f c.args.s.now _
     (of_automata sys R start_text ∷ (of_variables sys R value_start_text ∷ (of_automata sys R leads_text ∷ (up_to (length sys.variables) value_step_text ∷ (up_to (length sys.kinds) (event_always_text sys) ∷ [])))))
     (codes "SPEC AG EF (mk = 1);\n")
-    (c.put-automata.new.s, c.put-automata.ensures sys h, (c.put-numbers.new.s, c.put-numbers.ensures sys h ∙ ap (λ n. fold f c.put-automata.new.s (up_to n (λ i. value_start_text i (variable sys i)))) h.variables, (c.put-automata-2.new.s, c.put-automata-2.ensures sys h, (c.put-numbers-2.new.s, c.put-numbers-2.ensures sys h ∙ ap (λ n. fold f c.put-automata-2.new.s (up_to n value_step_text)) h.variables, (c.put-numbers-3.new.s, c.put-numbers-3.ensures sys h ∙ ap (λ n. fold f c.put-numbers-2.new.s (up_to n (event_always_text sys))) h.events, c.put-text.ensures)))))
+    (c.put_automata.new.s, c.put_automata.ensures sys h, (c.put_numbers.new.s, c.put_numbers.ensures sys h ∙ ap (λ n. fold f c.put_automata.new.s (up_to n (λ i. value_start_text i (variable sys i)))) h.variables, (c.put_automata-2.new.s, c.put_automata-2.ensures sys h, (c.put_numbers-2.new.s, c.put_numbers-2.ensures sys h ∙ ap (λ n. fold f c.put_automata-2.new.s (up_to n value_step_text)) h.variables, (c.put_numbers-3.new.s, c.put_numbers-3.ensures sys h ∙ ap (λ n. fold f c.put_numbers-2.new.s (up_to n (event_always_text sys))) h.events, c.put_text.ensures)))))

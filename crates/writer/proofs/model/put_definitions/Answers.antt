@@ -11,4 +11,4 @@ returns g c sys h =
     sent f c.args.s.now _
     (of_automata sys R choices_text ∷ (up_to (length sys.variables) (variable_text R sys) ∷ (up_to (length sys.kinds) (event_text sys) ∷ (of_automata sys R marks_text ∷ []))))
     (marked_text sys R)
-    (c.put-automata.new.s, c.put-automata.ensures sys h, (c.put-numbers.new.s, c.put-numbers.ensures sys h ∙ ap (λ n. fold f c.put-automata.new.s (up_to n (variable_text R sys))) h.variables, (c.put-numbers-2.new.s, c.put-numbers-2.ensures sys h ∙ ap (λ n. fold f c.put-numbers.new.s (up_to n (event_text sys))) h.events, (c.put-automata-2.new.s, c.put-automata-2.ensures sys h, c.put-marked.ensures sys R h))))
+    (c.put_automata.new.s, c.put_automata.ensures sys h, (c.put_numbers.new.s, c.put_numbers.ensures sys h ∙ ap (λ n. fold f c.put_automata.new.s (up_to n (variable_text R sys))) h.variables, (c.put_numbers-2.new.s, c.put_numbers-2.ensures sys h ∙ ap (λ n. fold f c.put_numbers.new.s (up_to n (event_text sys))) h.events, (c.put_automata-2.new.s, c.put_automata-2.ensures sys h, c.put_marked.ensures sys R h))))

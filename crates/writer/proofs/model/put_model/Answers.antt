@@ -7,4 +7,4 @@ pub returns : goal.returns
 returns g c sys h =
     let R = g.R.Rule.rule in
     sent g.S.Sink.step c.args.s.now _ (declarations_text sys R ∷ (definitions_text sys R ∷ [])) (constraints_text sys R)
-    (c.put-declarations.new.s, c.put-declarations.ensures sys h, (c.put-definitions.new.s, c.put-definitions.ensures sys h, c.put-constraints.ensures sys R h))
+    (c.put_declarations.new.s, c.put_declarations.ensures sys h, (c.put_definitions.new.s, c.put_definitions.ensures sys h, c.put_constraints.ensures sys R h))

@@ -6,4 +6,4 @@ use Rattle.writer.proofs.ranges.put_count_range.Goals as goal
 pub returns : goal.returns
 returns g c =
     sent g.S.Sink.step c.args.s.now _ (name_text c.args.x ∷ (codes " : " ∷ (decimal 0 ∷ (codes ".." ∷ (decimal c.args.last ∷ []))))) (codes ";\n")
-    (c.put-name.new.s, c.put-name.ensures, (c.put-text.new.s, c.put-text.ensures, (c.put-number.new.s, c.put-number.ensures, (c.put-text-2.new.s, c.put-text-2.ensures, (c.put-number-2.new.s, c.put-number-2.ensures, c.put-text-3.ensures)))))
+    (c.put_name.new.s, c.put_name.ensures, (c.put_text.new.s, c.put_text.ensures, (c.put_number.new.s, c.put_number.ensures, (c.put_text-2.new.s, c.put_text-2.ensures, (c.put_number-2.new.s, c.put_number-2.ensures, c.put_text-3.ensures)))))

@@ -13,5 +13,5 @@ returns g c r h =
     let k = c.args.self.now.automaton in
     let j = c.args.choice in
     sent_as g.S.Sink.step c.args.s.now _ ((name_text (N.Two Transition k j) ++ codes " := ") ∷ (print (taken k r.transition) ∷ [])) (codes ";\n") (taken_text k j r.transition)
-    (c.begin-definition.new.s, c.begin-definition.ensures, (c.put-taken.new.s, c.put-taken.ensures r h, c.put-text.ensures))
+    (c.begin_definition.new.s, c.begin_definition.ensures, (c.put_taken.new.s, c.put_taken.ensures r h, c.put_text.ensures))
     (append_assoc (name_text (N.Two Transition k j)) (codes " := ") _)

@@ -18,5 +18,5 @@ returns g c r h =
     let k = c.args.self.now.automaton in
     let j = c.args.choice in
     sent_as f s _ (leads_to k j ∷ (decimal r.transition.to ∷ [])) (codes ")));\n") (lead_text k j r.transition)
-    (c.begin-step.new.s, c.begin-step.ensures, (c.put-number.new.s, c.put-number.ensures ∙ ap (λ n. fold f c.begin-step.new.s (decimal n)) h.to, c.put-text.ensures))
+    (c.begin_step.new.s, c.begin_step.ensures, (c.put_number.new.s, c.put_number.ensures ∙ ap (λ n. fold f c.begin_step.new.s (decimal n)) h.to, c.put_text.ensures))
     (lead_pieces (print (is_not (N.One Choice k) j)) (name_text (N.Two Transition k j)) (name_text (N.One Location k)) (decimal r.transition.to))

@@ -1,5 +1,5 @@
 use Rattle.std.proofs.Common.{◌+◌, [], ◌∷◌, codes}
-use Rattle.bytes.specs.Text.{each}
+use Rattle.sinks.specs.Text.{each}
 use Rattle.model_text.specs.declared.words.Single.TheVariants.{Choice, Location}
 use Rattle.model_text.specs.declared.words.Double.TheVariants.{Transition}
 use Rattle.model_text.specs.declared.words.Name.TheVariants as N
@@ -20,9 +20,9 @@ returns g c A h rows =
     let k = c.args.k in
     let place = name_text (N.One Location k) in
     sent f s _ (step_text (leads k 0 (name (N.One Location k))) ∷ []) (each (λ j. lead_text k (j + 1)) 0 A.transitions) (
-      c.put-text.new.s,
+      c.put_text.new.s,
       sent_as f s _ (leads_to k 0 ∷ (place ∷ [])) (codes ")));\n") (step_text (leads k 0 (name (N.One Location k))))
-          (c.begin-step.new.s, c.begin-step.ensures, (c.put-name.new.s, c.put-name.ensures, c.put-text.ensures))
+          (c.begin_step.new.s, c.begin_step.ensures, (c.put_name.new.s, c.put_name.ensures, c.put_text.ensures))
           (lead_pieces (print (is_not (N.One Choice k) 0)) (name_text (N.Two Transition k 0)) (name_text (N.One Location k)) place),
-      c.put-transitions.ensures k A.transitions rows,
+      c.put_transitions.ensures k A.transitions rows,
     )

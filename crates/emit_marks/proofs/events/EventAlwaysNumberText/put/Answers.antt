@@ -5,10 +5,10 @@ use Rattle.emit.specs.Texts.{always_text}
 use Rattle.emit_marks.proofs.Pieces.{sent_if}
 use Rattle.emit_marks.proofs.events.EventAlwaysNumberText.put.Goals as goal
 
-pub returns-then-is-controlled : goal.returns-then-is-controlled
-returns-then-is-controlled g c sys h =
+pub returns-then-is_controlled : goal.returns-then-is_controlled
+returns-then-is_controlled g c sys h =
     let e = c.args.e in
     sent_if g.S.Sink.step c.args.s.now _ (controlled sys e) [] (up_to (length sys.automata) (λ k. always_text e k (automaton sys k))) _
-    (sym (c.if-is-controlled.ensures sys h))
-    (c.put-automata.ensures sys h)
+    (sym (c.if-is_controlled.ensures sys h))
+    (c.put_automata.ensures sys h)
     refl

@@ -12,5 +12,5 @@ pub returns : goal.returns
 returns g c A h rows =
     let unmarked = is_at (N.One LocationMarked c.args.k) 0 in
     sent_as g.S.Sink.step c.args.s.now _ (print unmarked ∷ []) (codes " : 0; ") (entry_text 0 unmarked)
-    (c.put-compared.new.s, c.put-compared.ensures, c.put-text.ensures)
+    (c.put_compared.new.s, c.put_compared.ensures, c.put_text.ensures)
     (shut_piece (print unmarked))

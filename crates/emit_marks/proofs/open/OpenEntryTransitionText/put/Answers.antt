@@ -18,5 +18,5 @@ returns-then-t-self g c r h =
     let t = r.transition in
     sent_if f c.args.s.now _ (eqb t.event e) (codes "(" ∷ (print (is_at (N.One Location k) t.from) ∷ (codes " & " ∷ (print (written variable_name t.guard) ∷ [])))) (codes ") : 1; ") (entry_text 1 (opening k t))
     (eq-eqb t.event e (sym h.event ∙ c.if-t-self.true))
-    (c.put-text.new.s, c.put-text.ensures, (c.put-compared.new.s, c.put-compared.ensures ∙ ap (λ n. fold f c.put-text.new.s (print (is_at (N.One Location k) n))) h.from, (c.put-text-then-t-self.new.s, c.put-text-then-t-self.ensures, (c.put.new.s, c.put.ensures t.guard h.guard ∙ ap (fold f c.put-text-then-t-self.new.s) (text_written variable_name t.guard), c.put-text-then-t-self-2.ensures))))
+    (c.put_text.new.s, c.put_text.ensures, (c.put_compared.new.s, c.put_compared.ensures ∙ ap (λ n. fold f c.put_text.new.s (print (is_at (N.One Location k) n))) h.from, (c.put_text-then-t-self.new.s, c.put_text-then-t-self.ensures, (c.put.new.s, c.put.ensures t.guard h.guard ∙ ap (fold f c.put_text-then-t-self.new.s) (text_written variable_name t.guard), c.put_text-then-t-self-2.ensures))))
     (entry_pieces (print (is_at (N.One Location k) t.from)) (codes " & ") (print (written variable_name t.guard)))

@@ -12,12 +12,12 @@ use Rattle.emit_marks.specs.Roles.{is_with}
 use Rattle.emit_marks.proofs.Pieces.{sent_if, always_pieces}
 use Rattle.emit_marks.proofs.open.SpecificationLinesAutomatonText.put.Goals as goal
 
-pub returns-then-is-with : goal.returns-then-is-with
-returns-then-is-with g c A h rows =
+pub returns-then-is_with : goal.returns-then-is_with
+returns-then-is_with g c A h rows =
     let e = c.args.self.now.event in
     let shut = is_at (N.One PlantsOpen e) 0 in
     let ready = is_at (N.Two Open e c.args.k) 1 in
     sent_if g.S.Sink.step c.args.s.now _ (is_with Specification e A) (codes "SPEC AG (" ∷ (print shut ∷ (codes " | " ∷ (print ready ∷ [])))) (codes ");\n") (line_text (constrain Always (either shut ready)))
-    (sym (c.if-is-with.ensures A h))
-    (c.put-text.new.s, c.put-text.ensures, (c.put-compared.new.s, c.put-compared.ensures, (c.put-text-then-is-with.new.s, c.put-text-then-is-with.ensures, (c.put-compared-then-is-with.new.s, c.put-compared-then-is-with.ensures, c.put-text-then-is-with-2.ensures))))
+    (sym (c.if-is_with.ensures A h))
+    (c.put_text.new.s, c.put_text.ensures, (c.put_compared.new.s, c.put_compared.ensures, (c.put_text-then-is_with.new.s, c.put_text-then-is_with.ensures, (c.put_compared-then-is_with.new.s, c.put_compared-then-is_with.ensures, c.put_text-then-is_with-2.ensures))))
     (always_pieces (print shut) (print ready))

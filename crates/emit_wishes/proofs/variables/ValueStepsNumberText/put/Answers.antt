@@ -14,5 +14,5 @@ returns g c sys h =
     let settled = name_text (N.One SettledValue i) in
     let permission = name_text (N.One Permission i) in
     sent_as g.S.Sink.step c.args.s.now _ (codes "TRANS ((next(" ∷ (next ∷ (codes ") = " ∷ (settled ∷ (codes ") & " ∷ (permission ∷ [])))))) (codes ");\n") (value_step_text i)
-    (c.put-text.new.s, c.put-text.ensures, (c.put-name.new.s, c.put-name.ensures, (c.put-text-2.new.s, c.put-text-2.ensures, (c.put-name-2.new.s, c.put-name-2.ensures, (c.put-text-3.new.s, c.put-text-3.ensures, (c.put-name-3.new.s, c.put-name-3.ensures, c.put-text-4.ensures))))))
+    (c.put_text.new.s, c.put_text.ensures, (c.put_name.new.s, c.put_name.ensures, (c.put_text-2.new.s, c.put_text-2.ensures, (c.put_name-2.new.s, c.put_name-2.ensures, (c.put_text-3.new.s, c.put_text-3.ensures, (c.put_name-3.new.s, c.put_name-3.ensures, c.put_text-4.ensures))))))
     (step_pieces next settled permission)

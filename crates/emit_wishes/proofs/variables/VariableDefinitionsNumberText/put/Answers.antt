@@ -11,6 +11,6 @@ returns g c sys h =
     let i = c.args.i in
     let R = g.R.Rule.rule in
     let n = length sys.automata in
-    let last : c.saturating-sub.result ≡ pred n = c.saturating-sub.ensures ∙ sub-one _ ∙ ap pred h.automata in
+    let last : c.saturating_sub.result ≡ pred n = c.saturating_sub.ensures ∙ sub-one _ ∙ ap pred h.automata in
     sent f c.args.s.now _ (up_to n (λ k. wishes_text R i k (automaton sys k)) ∷ []) (settle_text R i (pred n))
-    (c.put-automata.new.s, c.put-automata.ensures sys h, c.put-settle.ensures ∙ ap (λ k. fold f c.put-automata.new.s (settle_text R i k)) last)
+    (c.put_automata.new.s, c.put_automata.ensures sys h, c.put_settle.ensures ∙ ap (λ k. fold f c.put_automata.new.s (settle_text R i k)) last)

@@ -18,8 +18,8 @@ returns g c A h rows =
       c.put_case_lem.new.s,
       c.put_case_lem.ensures k ts rows ∙ ap (fold f s) (case_line (N.Two WishStatus i k) (λ _. count 1) i k ts),
       (
-        c.put-case-2.new.s,
-        c.put-case-2.ensures k ts rows ∙ ap (fold f c.put_case_lem.new.s) (case_line (N.Two WishValue i k) (written variable_name) i k ts),
-        c.put-join.ensures,
+        c.put_case-2.new.s,
+        c.put_case-2.ensures k ts rows ∙ ap (fold f c.put_case_lem.new.s) (case_line (N.Two WishValue i k) (written variable_name) i k ts),
+        c.put_join.ensures,
       ),
     )

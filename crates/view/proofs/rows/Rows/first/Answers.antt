@@ -5,19 +5,19 @@ use Rattle.view.proofs.Many.{none_left, first_left}
 use Rattle.view.proofs.RowParts.{row_standing, true_coded, no_updates}
 use Rattle.view.proofs.rows.Rows.first.Goals as goal
 
-pub invariant-of-result : goal.invariant-of-result
-invariant-of-result c = (∣ (truth true, true_coded) ∣₁, tt)
+pub invariant_of-result : goal.invariant_of-result
+invariant_of-result c = (∣ (truth true, true_coded) ∣₁, tt)
 
-pub invariant-of-result-then-self-eq0 : goal.invariant-of-result-then-self-eq0
-invariant-of-result-then-self-eq0 c = (∣ ([], no_updates) ∣₁, tt)
+pub invariant_of-result-then-self-eq0 : goal.invariant_of-result-then-self-eq0
+invariant_of-result-then-self-eq0 c = (∣ ([], no_updates) ∣₁, tt)
 
 pub returns-then-self-eq0 : goal.returns-then-self-eq0
 returns-then-self-eq0 c rs h =
     let e = none_left rs h c.if-self-eq0.true in
     rw e (record { owner = refl; from = refl; event = refl; to = refl; guard = true_coded; updates = no_updates })
 
-pub row-at-requires : goal.row-at-requires
-row-at-requires c = row_standing _ _ _ c.args.self.now.stand c.if-self-eq0.false
+pub row_at-requires : goal.row_at-requires
+row_at-requires c = row_standing _ _ _ c.args.self.now.stand c.if-self-eq0.false
 
 pub returns : goal.returns
-returns c rs h = c.row-at.ensures _ (first_left idle_row rs h c.if-self-eq0.false)
+returns c rs h = c.row_at.ensures _ (first_left idle_row rs h c.if-self-eq0.false)

@@ -6,4 +6,4 @@ pub bounds-self-e : goal.bounds-self-e
 bounds-self-e c = kind_fits _ _ c.args.self.now.shows _ c.if-e-self.false
 
 pub returns : goal.returns
-returns c S h = record { is = (omega (arith, h.events, c.if-e-self.false), λ d. c.kind-of.ensures ∙ kind_shown _ _ S h _ d c.if-e-self.false) }
+returns c S h = record { is = (omega (arith, h.events, c.if-e-self.false), λ d. c.kind_of.ensures ∙ kind_shown _ _ S h _ d c.if-e-self.false) }

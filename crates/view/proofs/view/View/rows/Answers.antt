@@ -3,8 +3,8 @@ use Rattle.system.specs.System.{rows}
 use Rattle.view.proofs.FileParts.{rows_stand}
 use Rattle.view.proofs.view.View.rows.Goals as goal
 
-pub invariant-of-result : goal.invariant-of-result
-invariant-of-result c = (∥∥₁_map c.args.self.now.shows (λ w. (rows w.0, rows_stand _ _ w.0 w.1)), tt)
+pub invariant_of-result : goal.invariant_of-result
+invariant_of-result c = (∥∥₁_map c.args.self.now.shows (λ w. (rows w.0, rows_stand _ _ w.0 w.1)), tt)
 
 pub returns : goal.returns
 returns c S h = rows_stand _ _ S h

@@ -7,5 +7,5 @@ use Rattle.writer.proofs.ranges.ChoiceRangesAutomatonText.put.Goals as goal
 
 pub returns : goal.returns
 returns g c A h rows =
-    c.put-count-range.ensures
+    c.put_count_range.ensures
     ∙ ap (λ n. fold g.S.Sink.step c.args.s.now (line_text (range (N.One Choice c.args.k) (pos 0) (pos n)))) (sym (own_length c.args.k 0 A.transitions _ _ _ rows))

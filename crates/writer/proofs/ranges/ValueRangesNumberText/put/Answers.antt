@@ -12,6 +12,6 @@ pub returns : goal.returns
 returns g c sys h =
     let f = g.S.Sink.step in
     let v = variable sys c.args.i in
-    let is = c.values-of-values.ensures sys h in
+    let is = c.values_of-values.ensures sys h in
     sent f c.args.s.now _ (name_text (N.One Variable c.args.i) ∷ (codes " : " ∷ (signed_decimal v.low ∷ (codes ".." ∷ (signed_decimal v.high ∷ []))))) (codes ";\n")
-    (c.put-name.new.s, c.put-name.ensures, (c.put-text.new.s, c.put-text.ensures, (c.put-signed.new.s, value-told signed_decimal f c.put-text.new.s _ c.values-of-values.result.low v.low (search rules) (ap (λ x. x.low) is) c.put-signed.ensures, (c.put-text-2.new.s, c.put-text-2.ensures, (c.put-signed-2.new.s, value-told signed_decimal f c.put-text-2.new.s _ c.values-of-values.result.high v.high (search rules) (ap (λ x. x.high) is) c.put-signed-2.ensures, c.put-text-3.ensures)))))
+    (c.put_name.new.s, c.put_name.ensures, (c.put_text.new.s, c.put_text.ensures, (c.put_signed.new.s, value-told signed_decimal f c.put_text.new.s _ c.values_of-values.result.low v.low (search rules) (ap (λ x. x.low) is) c.put_signed.ensures, (c.put_text-2.new.s, c.put_text-2.ensures, (c.put_signed-2.new.s, value-told signed_decimal f c.put_text-2.new.s _ c.values_of-values.result.high v.high (search rules) (ap (λ x. x.high) is) c.put_signed-2.ensures, c.put_text-3.ensures)))))

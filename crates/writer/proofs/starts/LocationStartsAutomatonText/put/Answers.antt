@@ -11,4 +11,4 @@ returns g c A h rows =
     let f = g.S.Sink.step in
     let place = N.One Location c.args.k in
     sent f c.args.s.now _ (codes "INIT " ∷ (print (is_at place A.start) ∷ [])) (codes ";\n")
-    (c.put-text.new.s, c.put-text.ensures, (c.put-compared.new.s, c.put-compared.ensures ∙ ap (λ n. fold f c.put-text.new.s (print (is_at place n))) h.start, c.put-text-2.ensures))
+    (c.put_text.new.s, c.put_text.ensures, (c.put_compared.new.s, c.put_compared.ensures ∙ ap (λ n. fold f c.put_text.new.s (print (is_at place n))) h.start, c.put_text-2.ensures))

@@ -1,6 +1,6 @@
 use Rattle.std.proofs.Common.{ap, ◌∙◌, zero-add, arith}
-use Rattle.bytes.proofs.Ends.{counts}
-use Rattle.bytes.proofs.measure_of.Goals as goal
+use Rattle.sinks.proofs.Ends.{counts}
+use Rattle.sinks.proofs.measure_of.Goals as goal
 
 pub returns : goal.returns
 returns g c =

@@ -1,7 +1,7 @@
 use Rattle.std.proofs.Common.{rules}
-use Rattle.bytes.proofs.Folds.{number_one, number_more}
-use Rattle.bytes.proofs.+put_number.Goals as goal
-use Rattle.bytes.proofs.+put_number.Goals.{then-n-ge10, else-n-ge10}
+use Rattle.sinks.proofs.Folds.{number_one, number_more}
+use Rattle.sinks.proofs.+put_number.Goals as goal
+use Rattle.sinks.proofs.+put_number.Goals.{then-n-ge10, else-n-ge10}
 
 pub returns : goal.returns
 returns g t c =

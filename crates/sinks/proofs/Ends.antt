@@ -4,11 +4,11 @@ use lib.Signed.{lt_z}
 use Rattle.std.proofs.lemmas.List.{take_more_set, drop-set-lt}
 use Rattle.std.proofs.lemmas.Int.{ints}
 use Rattle.std.proofs.lemmas.Bool.{le-leb, lt-ltb, cond-true}
-use Rattle.bytes.specs.declared.Count.{Count}
-use Rattle.bytes.specs.declared.Filler.{Filler}
-use Rattle.bytes.specs.Post.{Written}
-use Rattle.bytes.specs.Steps.{counted, filled}
-use Rattle.bytes.specs.Text.{laid, value_text}
+use Rattle.sinks.specs.declared.Count.{Count}
+use Rattle.sinks.specs.declared.Filler.{Filler}
+use Rattle.sinks.specs.Post.{Written}
+use Rattle.sinks.specs.Steps.{counted, filled}
+use Rattle.sinks.specs.Text.{laid, value_text}
 
 pub value-below : (z : ℤ) → lt_z z (pos 0) ≡ true → value_text z ≡ codes "(-" ++ (decimal (nat_abs z) ++ codes ")")
 value-below (pos n) h = absurd (let z : ⊥ = grind (arith, ints) in z)

@@ -1,8 +1,8 @@
 // Where bytes go: sinks, and the printing of text, numbers and values to any of them.
 ghost use Rattle.std.specs.Prelude.{◌≡◌, ℕ, ◌+◌, ◌^◌, ◌<◌, ◌≤◌, List, length, decimal, fold};
-ghost use Rattle.bytes.specs.Text.{laid, value_text};
-ghost use Rattle.bytes.specs.Post.{Written};
-ghost use Rattle.bytes.specs.Steps.{counted, filled};
+ghost use Rattle.sinks.specs.Text.{laid, value_text};
+ghost use Rattle.sinks.specs.Post.{Written};
+ghost use Rattle.sinks.specs.Steps.{counted, filled};
 
 pub trait Sink {
     // What one byte makes of the sink.

@@ -1,7 +1,7 @@
 use Rattle.std.proofs.Common.{◌≡◌, w16, to_z, of_z, rules}
-use Rattle.bytes.proofs.Ends.{value-below}
-use Rattle.bytes.proofs.Folds.{folded_append}
-use Rattle.bytes.proofs.put_value.Goals as goal
+use Rattle.sinks.proofs.Ends.{value-below}
+use Rattle.sinks.proofs.Folds.{folded_append}
+use Rattle.sinks.proofs.put_value.Goals as goal
 
 pub returns-then-v-lt0 : goal.returns-then-v-lt0
 returns-then-v-lt0 g c =

@@ -1,7 +1,7 @@
 -- The bytes of a text, two digits at a time: those that are read, and those of what is left.
 use Rattle.std.proofs.Common.{◌≡◌, ℕ, ◌+◌, ◌*◌, ◌<◌, ◌≤◌, List, [], ◌∷◌, ◌++◌, length, get_or, drop, Some, None, Option, sym, refl, ap, ◌∙◌, append_assoc, append-nil, arith}
 use Rattle.std.proofs.lemmas.List.{drop_more, drop_all}
-use Rattle.hex.specs.Hex.{pair_of, prefixed, bytes_of}
+use Rattle.hexadecimal.specs.Hex.{pair_of, prefixed, bytes_of}
 
 -- bytes in front of those that follow, if they do
 abbrev pub after : List ℕ → Option (List ℕ) → Option (List ℕ)

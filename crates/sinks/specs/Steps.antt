@@ -1,7 +1,7 @@
 -- What one byte does to each end.
 use Rattle.std.specs.Prelude.{ℕ, ◌+◌, ◌-◌, ◌^◌, cond, length, nat_lt, slice_set}
-use Rattle.bytes.specs.declared.Count.{Count}
-use Rattle.bytes.specs.declared.Filler.{Filler}
+use Rattle.sinks.specs.declared.Count.{Count}
+use Rattle.sinks.specs.declared.Filler.{Filler}
 
 abbrev pub counted : Count → ℕ → Count
 counted s b = record { n = cond (nat_lt s.n (2 ^ 64 - 1)) (s.n + 1) s.n }

@@ -1,6 +1,6 @@
 use Rattle.std.proofs.Common.{ap, ◌∙◌}
-use Rattle.bytes.proofs.Ends.{fills}
-use Rattle.bytes.proofs.fill_document.Goals as goal
+use Rattle.sinks.proofs.Ends.{fills}
+use Rattle.sinks.proofs.fill_document.Goals as goal
 
 pub returns : goal.returns
 returns g c =

@@ -1,7 +1,7 @@
 // Bytes as hexadecimal text: two digits a byte, in either case.
 ghost use Rattle.std.specs.Prelude.{◌≡◌, ◌<◌, IfSome, IfOk, vec_items};
 ghost use Rattle.std.specs.Option.{option_map};
-ghost use Rattle.hex.specs.Hex.{digit_of, pair_of, bytes_of};
+ghost use Rattle.hexadecimal.specs.Hex.{digit_of, pair_of, bytes_of};
 
 use std::alloc::{AllocError, Global};
 

@@ -1,4 +1,0 @@
-use Rattle.bytes.proofs.+put_number.Given as goal
-
-abbrev pub decreases-put-number : goal.decreases-put-number
-decreases-put-number g l = l.n
