@@ -28,7 +28,7 @@ laid_more o i b t h =
 
 -- s with other bytes, at another place
 abbrev moved : Filler → List ℕ → ℕ → Filler
-moved s o i = record { out = record { ref_ptr = s.out.ref_ptr; ghost_name = s.out.name; now = o }; at = i }
+moved s o i = record { out = record { ref_ptr = s.out.ref_ptr; ghost_name = s.out.ghost_name; now = o }; at = i }
 
 moved_both : (s : Filler) (o p : List ℕ) (i j : ℕ) → o ≡ p → i ≡ j → moved s o i ≡ moved s p j
 moved_both s o p i j e h = ap (λ q. moved s q i) e ∙ ap (λ k. moved s p k) h

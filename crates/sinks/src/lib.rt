@@ -46,7 +46,7 @@ impl Sink for Filler<'_> {
 
 // The bytes of `t`.
 pub fn put_text<S: Sink>(s: &mut S, t: &[u8])
-    ensures { s.new ≡ fold step s.old t.now }
+    ensures { s.new ≡ fold S.Sink.step s.old t.now }
 {
     for b in t {
         s.put(*b);
@@ -55,7 +55,7 @@ pub fn put_text<S: Sink>(s: &mut S, t: &[u8])
 
 // `n` in decimal, with no leading zero.
 pub fn put_number<S: Sink>(s: &mut S, n: u64)
-    ensures { s.new ≡ fold step s.old (decimal n) }
+    ensures { s.new ≡ fold S.Sink.step s.old (decimal n) }
 {
     if n >= 10 {
         put_number(s, n / 10);
@@ -65,7 +65,7 @@ pub fn put_number<S: Sink>(s: &mut S, n: u64)
 
 // `7`, or `(-7)`.
 pub fn put_value<S: Sink>(s: &mut S, v: i16)
-    ensures { s.new ≡ fold step s.old (value_text v) }
+    ensures { s.new ≡ fold S.Sink.step s.old (value_text v) }
 {
     if v < 0 {
         put_text(s, b"(-");
@@ -85,8 +85,8 @@ pub trait Document {
 }
 
 fn measure_of<D: Document>(d: &D) -> usize
-    requires { length (shown d.now) < 2 ^ 64 }
-    ensures { result ≡ length (shown d.now) }
+    requires { length (D.Document.shown d.now) < 2 ^ 64 }
+    ensures { result ≡ length (D.Document.shown d.now) }
 {
     let mut count = Count { n: 0 };
     d.emit(&mut count);
@@ -94,16 +94,16 @@ fn measure_of<D: Document>(d: &D) -> usize
 }
 
 fn fill_document<D: Document>(f: &mut Filler, d: &D)
-    requires { f.old.at + length (shown d.now) ≤ length f.old.out.now }
+    requires { f.old.at + length (D.Document.shown d.now) ≤ length f.old.out.now }
     ensures kept { f.new.out.ghost_name ≡ f.old.out.ghost_name }
-    ensures bytes { f.new.out.now ≡ laid f.old.out.now f.old.at (shown d.now) }
+    ensures bytes { f.new.out.now ≡ laid f.old.out.now f.old.at (D.Document.shown d.now) }
 {
     d.emit(f);
 }
 
 fn fill_of<D: Document>(d: &D, out: &mut [u8])
-    requires { length (shown d.now) ≤ length out.old }
-    ensures { out.new ≡ laid out.old 0 (shown d.now) }
+    requires { length (D.Document.shown d.now) ≤ length out.old }
+    ensures { out.new ≡ laid out.old 0 (D.Document.shown d.now) }
 {
     let mut filler = Filler { out, at: 0 };
     fill_document(&mut filler, d);
@@ -111,8 +111,8 @@ fn fill_of<D: Document>(d: &D, out: &mut [u8])
 
 // The text of `d` into the front of `out`, and its length; where it does not fit, nothing is written.
 pub fn write_of<D: Document>(d: &D, out: &mut [u8]) -> Result<usize, usize>
-    requires { length (shown d.now) < 2 ^ 64 }
-    ensures { Written (shown d.now) out.old out.new result }
+    requires { length (D.Document.shown d.now) < 2 ^ 64 }
+    ensures { Written (D.Document.shown d.now) out.old out.new result }
 {
     let needed = measure_of(d);
     if needed > out.len() {
