@@ -17,7 +17,7 @@ loop-e-preserved g c =
     onward f _ s _ (further (get_or xs i 0)) _
     (sym (at_drop_more (λ ys. fold f s (flat_map further ys)) xs i 0 c.loop-e-test.true) ∙ c.loop-e.invariant)
     (sent f s _ (codes " & " ∷ (print (is_not N.Event (get_or xs i 0)) ∷ [])) (codes ")")
-    (c.put_text.new.s, c.put_text.ensures, (c.put_compared.new.s, c.put_compared.ensures, c.put-text_in-loop-e.ensures)))
+    (c.put_text.new.s, c.put_text.ensures, (c.put_compared.new.s, c.put_compared.ensures, c.put_text-in-loop-e.ensures)))
 
 pub returns : goal.returns
 returns g c = sym (at_drop_all (λ ys. fold g.S.Sink.step c.loop-e.s (flat_map further ys)) c.args.events.now c.loop-e.e-index c.loop-e-test.false) ∙ c.loop-e.invariant

@@ -43,85 +43,85 @@ check_guard-returns-in-Not t c =
       within = further _ _ _ _ _ (omega arith) c.check_guard.ensures.within;
     }
 
-pub check_guard-returns-in_err-next : goal.check_guard-returns-in_err-next
-check_guard-returns-in_err-next t c =
-    let p = err_from_is_err_and c.from_residual-in_err-next.result c.from_residual-in_err-next.ensures.1 in
-    rw (p.1, p.2) (record { says = record { agree = join_bad _ _ _ _ _ _ _ c.if-depth-eq0.false c.in_ok-b.ensures _ _ c.in-Join.ensures c.in_err-next.ensures.says }; within = tt })
+pub check_guard-returns-in_err-next-in-Join : goal.check_guard-returns-in_err-next-in-Join
+check_guard-returns-in_err-next-in-Join t c =
+    let p = err_from_is_err_and c.from_residual-in_err-next-in-Join.result c.from_residual-in_err-next-in-Join.ensures.1 in
+    rw (p.1, p.2) (record { says = record { agree = join_bad _ _ _ _ _ _ _ c.if-depth-eq0.false c.in_ok-b.ensures _ _ c.in-Join.ensures c.in_err-next-in-Join.ensures.says }; within = tt })
 
-pub check_guard-returns-in_ok-next : goal.check_guard-returns-in_ok-next
-check_guard-returns-in_ok-next t c =
+pub check_guard-returns-in_ok-next-in-Join : goal.check_guard-returns-in_ok-next-in-Join
+check_guard-returns-in_ok-next-in-Join t c =
     record {
-      says = join_read _ _ _ _ _ _ _ c.if-depth-eq0.false c.in_ok-b.ensures _ _ _ c.in-Join.ensures c.in_ok-next.ensures.says c.check_guard-in-Join-2.ensures.says;
-      within = further _ _ _ _ _ (omega (arith, c.in_ok-next.ensures.within.0)) c.check_guard-in-Join-2.ensures.within;
+      says = join_read _ _ _ _ _ _ _ c.if-depth-eq0.false c.in_ok-b.ensures _ _ _ c.in-Join.ensures c.in_ok-next-in-Join.ensures.says c.check_guard-in-Join-2.ensures.says;
+      within = further _ _ _ _ _ (omega (arith, c.in_ok-next-in-Join.ensures.within.0)) c.check_guard-in-Join-2.ensures.within;
     }
 
-pub check_guard-returns-in_err-next-2 : goal.check_guard-returns-in_err-next-2
-check_guard-returns-in_err-next-2 t c =
-    let p = err_from_is_err_and c.from_residual-in_err-next-2.result c.from_residual-in_err-next-2.ensures.1 in
-    rw (p.1, p.2) (record { says = record { agree = test_bad _ _ _ _ _ _ _ c.if-depth-eq0.false c.in_ok-b.ensures _ _ c.in-Test.ensures c.in_err-next-2.ensures.says }; within = tt })
+pub check_guard-returns-in_err-next-in-Test : goal.check_guard-returns-in_err-next-in-Test
+check_guard-returns-in_err-next-in-Test t c =
+    let p = err_from_is_err_and c.from_residual-in_err-next-in-Test.result c.from_residual-in_err-next-in-Test.ensures.1 in
+    rw (p.1, p.2) (record { says = record { agree = test_bad _ _ _ _ _ _ _ c.if-depth-eq0.false c.in_ok-b.ensures _ _ c.in-Test.ensures c.in_err-next-in-Test.ensures.says }; within = tt })
 
-pub check_guard-returns-in_ok-next-2 : goal.check_guard-returns-in_ok-next-2
-check_guard-returns-in_ok-next-2 t c =
+pub check_guard-returns-in_ok-next-in-Test : goal.check_guard-returns-in_ok-next-in-Test
+check_guard-returns-in_ok-next-in-Test t c =
     record {
-      says = test_read _ _ _ _ _ _ _ c.if-depth-eq0.false c.in_ok-b.ensures _ _ _ c.in-Test.ensures c.in_ok-next-2.ensures.says c.check_term-in-Test.ensures.says;
-      within = further _ _ _ _ _ (omega (arith, c.in_ok-next-2.ensures.within.0)) c.check_term-in-Test.ensures.within;
+      says = test_read _ _ _ _ _ _ _ c.if-depth-eq0.false c.in_ok-b.ensures _ _ _ c.in-Test.ensures c.in_ok-next-in-Test.ensures.says c.check_term-in-Test.ensures.says;
+      within = further _ _ _ _ _ (omega (arith, c.in_ok-next-in-Test.ensures.within.0)) c.check_term-in-Test.ensures.within;
     }
 
-pub check_term-returns-in_err-next : goal.check_term-returns-in_err-next
-check_term-returns-in_err-next t c =
-    let p = err_from_is_err_and c.from_residual-in_err-next.result c.from_residual-in_err-next.ensures.1 in
-    rw (p.1, p.2) (record { says = record { agree = sum_bad _ _ _ _ _ _ _ c.if-depth-eq0.false c.in_ok-b.ensures _ _ c.in-Sum.ensures c.in_err-next.ensures.says }; within = tt })
+pub check_term-returns-in_err-next-in-Sum : goal.check_term-returns-in_err-next-in-Sum
+check_term-returns-in_err-next-in-Sum t c =
+    let p = err_from_is_err_and c.from_residual-in_err-next-in-Sum.result c.from_residual-in_err-next-in-Sum.ensures.1 in
+    rw (p.1, p.2) (record { says = record { agree = sum_bad _ _ _ _ _ _ _ c.if-depth-eq0.false c.in_ok-b.ensures _ _ c.in-Sum.ensures c.in_err-next-in-Sum.ensures.says }; within = tt })
 
-pub check_term-returns-in_ok-next : goal.check_term-returns-in_ok-next
-check_term-returns-in_ok-next t c =
+pub check_term-returns-in_ok-next-in-Sum : goal.check_term-returns-in_ok-next-in-Sum
+check_term-returns-in_ok-next-in-Sum t c =
     record {
-      says = sum_read _ _ _ _ _ _ _ c.if-depth-eq0.false c.in_ok-b.ensures _ _ _ c.in-Sum.ensures c.in_ok-next.ensures.says c.check_term-in-Sum.ensures.says;
-      within = further _ _ _ _ _ (omega (arith, c.in_ok-next.ensures.within.0)) c.check_term-in-Sum.ensures.within;
+      says = sum_read _ _ _ _ _ _ _ c.if-depth-eq0.false c.in_ok-b.ensures _ _ _ c.in-Sum.ensures c.in_ok-next-in-Sum.ensures.says c.check_term-in-Sum.ensures.says;
+      within = further _ _ _ _ _ (omega (arith, c.in_ok-next-in-Sum.ensures.within.0)) c.check_term-in-Sum.ensures.within;
     }
 
-pub check_term-returns-in_err-first : goal.check_term-returns-in_err-first
-check_term-returns-in_err-first t c =
-    let p = err_from_is_err_and c.from_residual-in_err-first.result c.from_residual-in_err-first.ensures.1 in
-    rw (p.1, p.2) (record { says = record { agree = case_bad _ _ _ _ _ _ _ c.if-depth-eq0.false c.in_ok-b.ensures _ c.in-Case.ensures c.in_err-first.ensures.says }; within = tt })
+pub check_term-returns-in_err-first-in-Case : goal.check_term-returns-in_err-first-in-Case
+check_term-returns-in_err-first-in-Case t c =
+    let p = err_from_is_err_and c.from_residual-in_err-first-in-Case.result c.from_residual-in_err-first-in-Case.ensures.1 in
+    rw (p.1, p.2) (record { says = record { agree = case_bad _ _ _ _ _ _ _ c.if-depth-eq0.false c.in_ok-b.ensures _ c.in-Case.ensures c.in_err-first-in-Case.ensures.says }; within = tt })
 
-pub check_term-returns-in_err-next-2 : goal.check_term-returns-in_err-next-2
-check_term-returns-in_err-next-2 t c =
-    let p = err_from_is_err_and c.from_residual-in_err-next-2.result c.from_residual-in_err-next-2.ensures.1 in
-    rw (p.1, p.2) (record { says = record { agree = case_then_bad _ _ _ _ _ _ _ c.if-depth-eq0.false c.in_ok-b.ensures _ _ c.in-Case.ensures c.in_ok-first.ensures.says c.in_err-next-2.ensures.says }; within = tt })
+pub check_term-returns-in_err-next-in-Case : goal.check_term-returns-in_err-next-in-Case
+check_term-returns-in_err-next-in-Case t c =
+    let p = err_from_is_err_and c.from_residual-in_err-next-in-Case.result c.from_residual-in_err-next-in-Case.ensures.1 in
+    rw (p.1, p.2) (record { says = record { agree = case_then_bad _ _ _ _ _ _ _ c.if-depth-eq0.false c.in_ok-b.ensures _ _ c.in-Case.ensures c.in_ok-first-in-Case.ensures.says c.in_err-next-in-Case.ensures.says }; within = tt })
 
-pub check_term-returns-in_ok-next-2 : goal.check_term-returns-in_ok-next-2
-check_term-returns-in_ok-next-2 t c =
-    let h = c.in_ok-first.ensures.within in
+pub check_term-returns-in_ok-next-in-Case : goal.check_term-returns-in_ok-next-in-Case
+check_term-returns-in_ok-next-in-Case t c =
+    let h = c.in_ok-first-in-Case.ensures.within in
     record {
-      says = case_read _ _ _ _ _ _ _ c.if-depth-eq0.false c.in_ok-b.ensures _ _ _ c.in-Case.ensures c.in_ok-first.ensures.says c.in_ok-next-2.ensures.says c.check_term-in-Case-2.ensures.says;
-      within = further _ _ _ _ _ (omega (arith, c.in_ok-next-2.ensures.within.0)) c.check_term-in-Case-2.ensures.within;
+      says = case_read _ _ _ _ _ _ _ c.if-depth-eq0.false c.in_ok-b.ensures _ _ _ c.in-Case.ensures c.in_ok-first-in-Case.ensures.says c.in_ok-next-in-Case.ensures.says c.check_term-in-Case-2.ensures.says;
+      within = further _ _ _ _ _ (omega (arith, c.in_ok-next-in-Case.ensures.within.0)) c.check_term-in-Case-2.ensures.within;
     }
 
-pub check_term-returns-in_err-next_byte : goal.check_term-returns-in_err-next_byte
-check_term-returns-in_err-next_byte t c =
-    let p = err_from_is_err_and c.from_residual-in_err-next_byte.result c.from_residual-in_err-next_byte.ensures.1 in
-    rw (p.1, p.2) (record { says = record { agree = literal_stops _ _ _ _ _ _ _ c.if-depth-eq0.false c.in_ok-b.ensures _ c.in-Literal.ensures c.in_err-next_byte.ensures }; within = tt })
+pub check_term-returns-in_err-next_byte-in-Literal : goal.check_term-returns-in_err-next_byte-in-Literal
+check_term-returns-in_err-next_byte-in-Literal t c =
+    let p = err_from_is_err_and c.from_residual-in_err-next_byte-in-Literal.result c.from_residual-in_err-next_byte-in-Literal.ensures.1 in
+    rw (p.1, p.2) (record { says = record { agree = literal_stops _ _ _ _ _ _ _ c.if-depth-eq0.false c.in_ok-b.ensures _ c.in-Literal.ensures c.in_err-next_byte-in-Literal.ensures }; within = tt })
 
-pub check_term-returns-in_err-next_byte-2 : goal.check_term-returns-in_err-next_byte-2
-check_term-returns-in_err-next_byte-2 t c =
-    let p = err_from_is_err_and c.from_residual-in_err-next_byte-2.result c.from_residual-in_err-next_byte-2.ensures.1 in
-    rw (p.1, p.2) (record { says = record { agree = literal_stops_later _ _ _ _ _ _ _ c.if-depth-eq0.false c.in_ok-b.ensures _ _ c.in-Literal.ensures c.in_ok-next_byte.ensures c.in_err-next_byte-2.ensures }; within = tt })
+pub check_term-returns-in_err-next_byte-in-Literal-2 : goal.check_term-returns-in_err-next_byte-in-Literal-2
+check_term-returns-in_err-next_byte-in-Literal-2 t c =
+    let p = err_from_is_err_and c.from_residual-in_err-next_byte-in-Literal-2.result c.from_residual-in_err-next_byte-in-Literal-2.ensures.1 in
+    rw (p.1, p.2) (record { says = record { agree = literal_stops_later _ _ _ _ _ _ _ c.if-depth-eq0.false c.in_ok-b.ensures _ _ c.in-Literal.ensures c.in_ok-next_byte-in-Literal.ensures c.in_err-next_byte-in-Literal-2.ensures }; within = tt })
 
-pub check_term-returns-in_ok-next_byte-2 : goal.check_term-returns-in_ok-next_byte-2
-check_term-returns-in_ok-next_byte-2 t c =
-    let h = c.in_ok-next_byte-2.ensures in
-    record { says = literal_read _ _ _ _ _ _ _ c.if-depth-eq0.false c.in_ok-b.ensures _ _ c.in-Literal.ensures c.in_ok-next_byte.ensures h; within = (omega arith, omega arith, omega arith) }
+pub check_term-returns-in_ok-next_byte-in-Literal-2 : goal.check_term-returns-in_ok-next_byte-in-Literal-2
+check_term-returns-in_ok-next_byte-in-Literal-2 t c =
+    let h = c.in_ok-next_byte-in-Literal-2.ensures in
+    record { says = literal_read _ _ _ _ _ _ _ c.if-depth-eq0.false c.in_ok-b.ensures _ _ c.in-Literal.ensures c.in_ok-next_byte-in-Literal.ensures h; within = (omega arith, omega arith, omega arith) }
 
-pub check_term-returns-in_err-v : goal.check_term-returns-in_err-v
-check_term-returns-in_err-v t c =
-    let p = err_from_is_err_and c.from_residual-in_err-v.result c.from_residual-in_err-v.ensures.1 in
-    rw (p.1, p.2) (record { says = record { agree = variable_stops _ _ _ _ _ _ _ c.if-depth-eq0.false c.in_ok-b.ensures _ c.in-Variable.ensures c.in_err-v.ensures }; within = tt })
+pub check_term-returns-in_err-v-in-Variable : goal.check_term-returns-in_err-v-in-Variable
+check_term-returns-in_err-v-in-Variable t c =
+    let p = err_from_is_err_and c.from_residual-in_err-v-in-Variable.result c.from_residual-in_err-v-in-Variable.ensures.1 in
+    rw (p.1, p.2) (record { says = record { agree = variable_stops _ _ _ _ _ _ _ c.if-depth-eq0.false c.in_ok-b.ensures _ c.in-Variable.ensures c.in_err-v-in-Variable.ensures }; within = tt })
 
 pub check_term-returns-then-v-variables : goal.check_term-returns-then-v-variables
 check_term-returns-then-v-variables t c =
-    let h = c.in_ok-v.ensures in
+    let h = c.in_ok-v-in-Variable.ensures in
     record { says = variable_read _ _ _ _ _ _ _ c.if-depth-eq0.false c.in_ok-b.ensures _ c.in-Variable.ensures h c.if-v-variables.true; within = (omega arith, omega arith, omega arith) }
 
 pub check_term-returns-else-v-variables : goal.check_term-returns-else-v-variables
 check_term-returns-else-v-variables t c =
-    record { says = record { agree = variable_far _ _ _ _ _ _ _ c.if-depth-eq0.false c.in_ok-b.ensures _ c.in-Variable.ensures c.in_ok-v.ensures c.if-v-variables.false ∙ ap bad (sym c.broken-else-v-variables.ensures) }; within = tt }
+    record { says = record { agree = variable_far _ _ _ _ _ _ _ c.if-depth-eq0.false c.in_ok-b.ensures _ c.in-Variable.ensures c.in_ok-v-in-Variable.ensures c.if-v-variables.false ∙ ap bad (sym c.broken-else-v-variables.ensures) }; within = tt }

@@ -15,12 +15,12 @@ pub guard_value-guard_value-b-requires : goal.guard_value-guard_value-b-requires
 guard_value-guard_value-b-requires t c =
     (omega arith, (c.requires.long, two_second _ _ _ (join_two _ _ _ c.in-Join.ensures) _ _ c.guard_value-a-in-Join.ensures c.requires.standing))
 
-pub guard_value_term_value-a-requires : goal.guard_value_term_value-a-requires
-guard_value_term_value-a-requires t c =
+pub guard_value-term_value-a-requires : goal.guard_value-term_value-a-requires
+guard_value-term_value-a-requires t c =
     (omega arith, (c.requires.long, two_first _ _ _ (test_two _ _ _ c.in-Test.ensures) c.requires.standing))
 
-pub guard_value_term_value-b-requires : goal.guard_value_term_value-b-requires
-guard_value_term_value-b-requires t c =
+pub guard_value-term_value-b-requires : goal.guard_value-term_value-b-requires
+guard_value-term_value-b-requires t c =
     (omega arith, (c.requires.long, two_second _ _ _ (test_two _ _ _ c.in-Test.ensures) _ _ c.term_value-a.ensures.spans c.requires.standing))
 
 pub guard_value-unreachable-requires : goal.guard_value-unreachable-requires

@@ -16,12 +16,12 @@ pub put_guard-put_guard-end-requires-in-Join : goal.put_guard-put_guard-end-requ
 put_guard-put_guard-end-requires-in-Join g t c κs within =
     (omega arith, (within.0, (within.1, (c.requires.long, two_second _ _ _ (join_two _ _ _ c.in-Join.ensures) _ _ c.put_guard-next.ensures c.requires.standing))))
 
-pub put_guard_put_term-next-requires : goal.put_guard_put_term-next-requires
-put_guard_put_term-next-requires g t c κs within =
+pub put_guard-put_term-next-requires : goal.put_guard-put_term-next-requires
+put_guard-put_term-next-requires g t c κs within =
     (omega arith, (within.0, (within.1, (c.requires.long, two_first _ _ _ (test_two _ _ _ c.in-Test.ensures) c.requires.standing))))
 
-pub put_guard_put_term-end-requires : goal.put_guard_put_term-end-requires
-put_guard_put_term-end-requires g t c κs within =
+pub put_guard-put_term-end-requires : goal.put_guard-put_term-end-requires
+put_guard-put_term-end-requires g t c κs within =
     (omega arith, (within.0, (within.1, (c.requires.long, two_second _ _ _ (test_two _ _ _ c.in-Test.ensures) _ _ c.put_term-next.ensures c.requires.standing))))
 
 pub put_guard-unreachable-requires : goal.put_guard-unreachable-requires
@@ -33,17 +33,17 @@ put_guard-returns-in-Truth g t c = truth_spans _ _ _ _ c.in-Truth.ensures c.requ
 pub put_guard-returns-in-Not : goal.put_guard-returns-in-Not
 put_guard-returns-in-Not g t c =
     not_spans _ _ c.in-Not.ensures _ _ _ c.put_guard-end.ensures
-    (λ x p. put_not g.S.Sink.step _ _ _ _ _ x c.put_text.ensures p c.put-text_in-Not.ensures)
+    (λ x p. put_not g.S.Sink.step _ _ _ _ _ x c.put_text.ensures p c.put_text-in-Not.ensures)
 
 pub put_guard-returns-in-Join : goal.put_guard-returns-in-Join
 put_guard-returns-in-Join g t c =
     two_spans _ _ _ (join_two _ _ _ c.in-Join.ensures) _ _ c.put_guard-next.ensures _ _ _ c.put_guard-end-in-Join.ensures
-    (λ x y p q. put_between g.S.Sink.step _ _ (joint_text c.in-Join.joint) _ _ _ _ _ x y c.put-text_in-Join.ensures p c.put_joint.ensures q c.put-text_in-Join-2.ensures)
+    (λ x y p q. put_between g.S.Sink.step _ _ (joint_text c.in-Join.joint) _ _ _ _ _ x y c.put_text-in-Join.ensures p c.put_joint.ensures q c.put_text-in-Join-2.ensures)
 
 pub put_guard-returns-in-Test : goal.put_guard-returns-in-Test
 put_guard-returns-in-Test g t c =
     two_spans _ _ _ (test_two _ _ _ c.in-Test.ensures) _ _ c.put_term-next.ensures _ _ _ c.put_term-end.ensures
-    (λ x y p q. put_between g.S.Sink.step _ _ (order_text c.in-Test.order) _ _ _ _ _ x y c.put-text_in-Test.ensures p c.put_order.ensures q c.put-text_in-Test-2.ensures)
+    (λ x y p q. put_between g.S.Sink.step _ _ (order_text c.in-Test.order) _ _ _ _ _ x y c.put_text-in-Test.ensures p c.put_order.ensures q c.put_text-in-Test-2.ensures)
 
 pub put_term-literal-requires : goal.put_term-literal-requires
 put_term-literal-requires g t c = omega (arith, literal_within _ _ c.in-Literal.ensures c.requires.standing)
@@ -85,9 +85,9 @@ put_term-returns-in-Variable g t c = variable_spans _ _ c.in-Variable.ensures _ 
 pub put_term-returns-in-Sum : goal.put_term-returns-in-Sum
 put_term-returns-in-Sum g t c =
     two_spans _ _ _ (sum_two _ _ _ c.in-Sum.ensures) _ _ c.put_term-next.ensures _ _ _ c.put_term-end.ensures
-    (λ x y p q. put_between g.S.Sink.step _ _ (sign_text c.in-Sum.sign) _ _ _ _ _ x y c.put_text.ensures p c.put_sign.ensures q c.put-text_in-Sum.ensures)
+    (λ x y p q. put_between g.S.Sink.step _ _ (sign_text c.in-Sum.sign) _ _ _ _ _ x y c.put_text.ensures p c.put_sign.ensures q c.put_text-in-Sum.ensures)
 
 pub put_term-returns-in-Case : goal.put_term-returns-in-Case
 put_term-returns-in-Case g t c =
     case_spans _ _ c.in-Case.ensures _ _ c.put_guard-first.ensures _ _ c.put_term-next-in-Case.ensures _ _ _ c.put_term-end-in-Case.ensures
-    (λ x y z p q r. put_case_lem g.S.Sink.step _ _ _ _ _ _ _ _ _ x y z c.put-text_in-Case.ensures p c.put-text_in-Case-2.ensures q c.put-text_in-Case-3.ensures r c.put-text_in-Case-4.ensures)
+    (λ x y z p q r. put_case_lem g.S.Sink.step _ _ _ _ _ _ _ _ _ x y z c.put_text-in-Case.ensures p c.put_text-in-Case-2.ensures q c.put_text-in-Case-3.ensures r c.put_text-in-Case-4.ensures)
