@@ -3,7 +3,7 @@ use Rattle.view.proofs.RowParts.{row_parts, guard_coded}
 use Rattle.view.proofs.step.row_at.Goals as goal
 
 pub invariant_of-result : goal.invariant_of-result
-invariant_of-result c = (∥∥₁_map c.requires.some (λ w. (w.0.transition.guard, guard_coded _ _ w.0 w.1)), tt)
+invariant_of-result c = record { coded = ∥∥₁_map c.requires.some (λ w. (w.0.transition.guard, guard_coded _ _ w.0 w.1)) }
 
 pub returns : goal.returns
 returns c t h =

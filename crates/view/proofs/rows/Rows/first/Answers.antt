@@ -6,10 +6,10 @@ use Rattle.view.proofs.RowParts.{row_standing, true_coded, no_updates}
 use Rattle.view.proofs.rows.Rows.first.Goals as goal
 
 pub invariant_of-result : goal.invariant_of-result
-invariant_of-result c = (∣ (truth true, true_coded) ∣₁, tt)
+invariant_of-result c = record { coded = ∣ (truth true, true_coded) ∣₁ }
 
 pub invariant_of-result-then-self-eq0 : goal.invariant_of-result-then-self-eq0
-invariant_of-result-then-self-eq0 c = (∣ ([], no_updates) ∣₁, tt)
+invariant_of-result-then-self-eq0 c = record { stand = ∣ ([], no_updates) ∣₁ }
 
 pub returns-then-self-eq0 : goal.returns-then-self-eq0
 returns-then-self-eq0 c rs h =

@@ -6,7 +6,7 @@ use Rattle.view.proofs.UpdateParts.{update-standing, zero_coded}
 use Rattle.view.proofs.updates.Updates.first.Goals as goal
 
 pub invariant_of-result : goal.invariant_of-result
-invariant_of-result c = (∣ (literal (pos 0), zero_coded) ∣₁, tt)
+invariant_of-result c = record { coded = ∣ (literal (pos 0), zero_coded) ∣₁ }
 
 pub returns-then-self-eq0 : goal.returns-then-self-eq0
 returns-then-self-eq0 c us h = let e = none_left us h c.if-self-eq0.true in rw e (record { variable = refl; value = zero_coded })
