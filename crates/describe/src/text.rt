@@ -1,8 +1,8 @@
 // The text form of guards and terms.
 ghost use Rattle.describe.specs.Grown.{grown};
 
-use sinks::Sink;
 use expr::{Guard, Numbered, Term};
+use sinks::Sink;
 use std::fmt;
 
 const ROOM: usize = 8192;

@@ -3,9 +3,9 @@ ghost use Rattle.std.specs.Prelude.{◌≡◌, fold};
 ghost use Rattle.model_text.specs.Words.{single, double, name_text};
 ghost use Rattle.translation.specs.Written.{join_name, settle_name};
 
-use sinks::{Sink, put_number, put_text};
 use expr::Names;
 use model_text::{Double, Name, Single};
+use sinks::{Sink, put_number, put_text};
 
 fn single_letter(x: Single) -> u8
     ensures { result ≡ single x }

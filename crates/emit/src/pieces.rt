@@ -5,10 +5,10 @@ ghost use Rattle.model_text.specs.Words.{name_text};
 ghost use Rattle.translation.specs.Written.{compared};
 
 use crate::names::put_name;
-use sinks::{Sink, put_number, put_text};
 use expr::code::Order;
 use expr::put_order;
 use model_text::Name;
+use sinks::{Sink, put_number, put_text};
 
 // A name beside a number, as `(s0 = 3)`.
 pub fn put_compared<S: Sink>(s: &mut S, x: Name, order: Order, n: u16)

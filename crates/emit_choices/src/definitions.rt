@@ -7,11 +7,11 @@ ghost use Rattle.translation.specs.Translate.{taken};
 ghost use Rattle.emit.specs.Texts.{stay_text, taken_text, choices_text};
 
 use crate::outside::put_outside;
-use sinks::{Sink, put_text};
 use emit::{AutomatonText, TransitionText, begin_definition, put_compared, put_transitions};
 use expr::Numbered;
 use expr::code::Order;
 use model_text::{Double, Name, Single};
+use sinks::{Sink, put_text};
 use view::{Head, Rows, Transition};
 
 // The automaton is where the transition begins, its event happens, and its guard holds.

@@ -5,10 +5,10 @@ ghost use Rattle.model_text.specs.Trees.{print};
 ghost use Rattle.translation.specs.Translate.{outside};
 ghost use Rattle.emit_choices.specs.Further.{further};
 
-use sinks::{Sink, put_text};
 use emit::put_compared;
 use expr::code::Order;
 use model_text::Name;
+use sinks::{Sink, put_text};
 
 // So many opening parentheses.
 fn put_opening<S: Sink>(s: &mut S, n: usize)

@@ -3,10 +3,10 @@ ghost use Rattle.std.specs.Prelude.{◌≡◌, ◌++◌, codes, fold};
 ghost use Rattle.emit.specs.Texts.{lead_text, leads_text};
 ghost use Rattle.emit_choices.specs.Further.{leads_to};
 
-use sinks::{Sink, put_number, put_text};
 use emit::{AutomatonText, TransitionText, put_compared, put_name, put_transitions};
 use expr::code::Order;
 use model_text::{Double, Name, Single};
+use sinks::{Sink, put_number, put_text};
 use view::{Head, Rows, Transition};
 
 // The line of a choice, up to where it leads.

@@ -6,9 +6,9 @@ ghost use Rattle.emit.specs.Texts.{plants_text, event_text, event_always_text};
 
 use crate::controlled::is_controlled;
 use crate::open::{OpenDefinitions, PlantEntries, SpecificationLines};
-use sinks::{Sink, put_text};
 use emit::{NumberText, begin_definition, put_automata};
 use model_text::{Name, Single};
+use sinks::{Sink, put_text};
 use view::View;
 
 // Whether every plant with the event is open on it.

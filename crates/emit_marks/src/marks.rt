@@ -9,13 +9,13 @@ ghost use Rattle.translation.specs.Systems.{variable};
 ghost use Rattle.emit.specs.Texts.{marks_text, unmarked_location, unmarked_value, marked_text};
 ghost use Rattle.emit_marks.specs.Locations.{location_entry};
 
-use sinks::{Sink, put_number, put_text, put_value};
 use emit::{
     AutomatonText, NumberText, begin_definition, put_automata, put_compared, put_name, put_numbers,
     values_of,
 };
 use expr::code::Order;
 use model_text::{Name, Single};
+use sinks::{Sink, put_number, put_text, put_value};
 use view::{Head, Rows, View};
 
 // An entry, 1 where the automaton is at the location, if the mark is 1.

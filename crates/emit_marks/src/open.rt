@@ -2,11 +2,11 @@
 ghost use Rattle.emit.specs.Texts.{open_entry, open_text, plant_entry, always_text};
 
 use crate::controlled::is_with;
-use sinks::{Sink, put_text};
 use emit::{AutomatonText, TransitionText, begin_definition, is_in, put_compared, put_transitions};
 use expr::Numbered;
 use expr::code::Order;
 use model_text::{Double, Name, Single};
+use sinks::{Sink, put_text};
 use system::Role;
 use view::{Head, Rows, Transition};
 

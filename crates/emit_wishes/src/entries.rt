@@ -9,11 +9,11 @@ ghost use Rattle.translation.specs.Written.{is_at};
 ghost use Rattle.emit.specs.Texts.{status_entry, value_entry};
 ghost use Rattle.emit_wishes.specs.Sought.{first_is, updates_from};
 
-use sinks::{Sink, put_text};
 use emit::{TransitionText, put_compared};
 use expr::Numbered;
 use expr::code::Order;
 use model_text::{Name, Single};
+use sinks::{Sink, put_text};
 use view::{Transition, Updates};
 
 // Whether there is a first update, and it is one of the variable.

@@ -7,11 +7,11 @@ ghost use Rattle.model_text.specs.Words.{name_text};
 ghost use Rattle.emit.specs.Texts.{join_text, settle_text};
 ghost use Rattle.emit_wishes.specs.Lines.{defined};
 
-use sinks::{Sink, put_text};
 use clash::{Rule, joined_status_term, joined_value_term, permission_guard, settled_value_term};
 use emit::{Joining, Settling, begin_definition, put_name};
 use expr::{Guard, Names, Term};
 use model_text::{Double, Name, Single};
+use sinks::{Sink, put_text};
 
 // A name that stands for another.
 fn put_copy<S: Sink>(s: &mut S, x: Name, y: Name)

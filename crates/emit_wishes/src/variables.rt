@@ -3,10 +3,10 @@ ghost use Rattle.emit.specs.Texts.{variable_text, value_step_text};
 
 use crate::joins::put_settle;
 use crate::wishes::Wishes;
-use sinks::{Sink, put_text};
 use clash::Rule;
 use emit::{NumberText, put_automata, put_name};
 use model_text::{Name, Single};
+use sinks::{Sink, put_text};
 use std::marker::PhantomData;
 use view::View;
 

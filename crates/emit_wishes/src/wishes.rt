@@ -9,10 +9,10 @@ ghost use Rattle.emit_wishes.specs.Lines.{case_text};
 
 use crate::entries::{StatusEntry, ValueEntry};
 use crate::joins::put_join;
-use sinks::{Sink, put_text};
 use clash::Rule;
 use emit::{AutomatonText, TransitionText, begin_definition, put_transitions};
 use model_text::{Double, Name};
+use sinks::{Sink, put_text};
 use std::marker::PhantomData;
 use view::{Head, Rows};
 

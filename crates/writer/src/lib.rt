@@ -3,10 +3,10 @@ ghost use Rattle.std.specs.Prelude.{take, IfOk};
 ghost use Rattle.sinks.specs.Post.{Written};
 ghost use Rattle.writer.specs.Answered.{file_text, Answered, SaysSystem};
 
-use sinks::{Document, Sink, write_of};
 use clash::Rule;
 use model::put_model;
 use scan::Fault;
+use sinks::{Document, Sink, write_of};
 use std::marker::PhantomData;
 use view::View;
 

@@ -7,12 +7,12 @@ ghost use Rattle.emit.specs.Texts.{definitions_text, constraints_text, whole_tex
 
 use crate::ranges::put_declarations;
 use crate::starts::{LocationStarts, ValueStarts};
-use sinks::{Sink, put_text};
 use clash::Rule;
 use emit::{put_automata, put_numbers};
 use emit_choices::{ChoiceDefinitions, ChoiceSteps};
 use emit_marks::{EventAlways, EventDefinitions, LocationMarks, put_marked};
 use emit_wishes::{ValueSteps, VariableDefinitions};
+use sinks::{Sink, put_text};
 use std::marker::PhantomData;
 use view::View;
 

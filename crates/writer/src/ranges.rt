@@ -7,10 +7,10 @@ ghost use Rattle.model_text.specs.Lines.{range, line_text};
 ghost use Rattle.translation.specs.Systems.{variable};
 ghost use Rattle.emit.specs.Texts.{choice_range, location_range, value_range, declarations_text};
 
-use sinks::{Sink, put_number, put_text};
 use clash::Rule;
 use emit::{AutomatonText, NumberText, put_automata, put_name, put_numbers, values_of};
 use model_text::{Name, Single};
+use sinks::{Sink, put_number, put_text};
 use view::{Head, Rows, View};
 
 // `7`, or `-7`.

@@ -2,10 +2,10 @@
 ghost use Rattle.translation.specs.Systems.{variable};
 ghost use Rattle.emit.specs.Texts.{start_text, value_start_text};
 
-use sinks::{Sink, put_text, put_value};
 use emit::{AutomatonText, NumberText, put_compared, put_name, values_of};
 use expr::code::Order;
 use model_text::{Name, Single};
+use sinks::{Sink, put_text, put_value};
 use view::{Head, Rows, View};
 
 #[derive(Drop)]

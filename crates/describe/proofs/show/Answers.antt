@@ -3,5 +3,5 @@ use Rattle.describe.proofs.show.Goals as goal
 
 pub invariant_of-print : goal.invariant_of-print
 invariant_of-print c =
-    let w = c.in_Ok.ensures.exact.agree in
-    (∣ (w.value, w.holds) ∣₁, tt)
+    let w = c.in-Ok.ensures.exact.agree in
+    record { shows = ∣ (w.value, w.holds) ∣₁ }

@@ -6,18 +6,18 @@ invariant_of-write_view g c =
     let w = c.in_ok-layout.ensures.exact.agree in
     (∣ (w.value, w.holds) ∣₁, tt)
 
-pub returns-in_Ok : goal.returns-in_Ok
-returns-in_Ok g c =
+pub returns-in-Ok : goal.returns-in-Ok
+returns-in-Ok g c =
     let R = g.R.Rule.rule in
     let s = c.args.file.now in
     let w = c.in_ok-layout.ensures.exact.agree in
-    let told = c.in_Ok.ensures in
+    let told = c.in-Ok.ensures in
     record {
       exact = answered R s _ _ w.value w.end _ w.is told;
       means = says-system R s _ w.value w.holds g.met.R.Rule.lawful _ (text_in_front _ _ _ _ told);
     }
 
-pub returns-in_Err : goal.returns-in_Err
-returns-in_Err g c =
+pub returns-in-Err : goal.returns-in-Err
+returns-in-Err g c =
     let w = c.in_ok-layout.ensures.exact.agree in
-    record { exact = answered g.R.Rule.rule c.args.file.now _ _ w.value w.end _ w.is c.in_Err.ensures; means = tt }
+    record { exact = answered g.R.Rule.rule c.args.file.now _ _ w.value w.end _ w.is c.in-Err.ensures; means = tt }

@@ -8,7 +8,7 @@ use Rattle.emit.proofs.rows.part.Goals as goal
 pub invariant_of-result : goal.invariant_of-result
 invariant_of-result c =
     let r = c.args.rows.now in
-    (∥∥₁_map r.stand (λ w. (take c.own_count-count.result w.0, first_rows r.file.now r.at r.left _ w.0 w.1 c.own_count-count.ensures.within)), tt)
+    record { stand = ∥∥₁_map r.stand (λ w. (take c.own_count-count.result w.0, first_rows r.file.now r.at r.left _ w.0 w.1 c.own_count-count.ensures.within)) }
 
 pub returns : goal.returns
 returns c A As h =

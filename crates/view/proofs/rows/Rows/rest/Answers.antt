@@ -11,7 +11,7 @@ updates_at-requires c = row_standing _ _ _ c.args.self.now.stand c.if-self-eq0.f
 pub invariant_of-result : goal.invariant_of-result
 invariant_of-result c = record {
   stand =
-    ∥∥₁_map c.args.self.now.stand (λ w.
+      ∥∥₁_map c.args.self.now.stand (λ w.
       let one = first_left idle_row w.0 w.1 c.if-self-eq0.false in
       (drop 1 w.0, rest_left idle_row w.0 _ w.1 c.if-self-eq0.false (c.end.ensures _ (c.updates_at.ensures.are _ one) ∙ c.updates_at.ensures.last _ one)));
 }

@@ -11,7 +11,7 @@ update_end-requires c = update-standing _ _ _ c.args.self.now.stand c.if-self-eq
 pub invariant_of-result : goal.invariant_of-result
 invariant_of-result c = record {
   stand =
-    ∥∥₁_map c.args.self.now.stand (λ w. (drop 1 w.0, rest_left to_zero w.0 _ w.1 c.if-self-eq0.false (c.update_end.ensures _ (first_left to_zero w.0 w.1 c.if-self-eq0.false))));
+      ∥∥₁_map c.args.self.now.stand (λ w. (drop 1 w.0, rest_left to_zero w.0 _ w.1 c.if-self-eq0.false (c.update_end.ensures _ (first_left to_zero w.0 w.1 c.if-self-eq0.false))));
 }
 
 pub returns : goal.returns
