@@ -15,11 +15,11 @@ returns g c A h rows =
     let k = c.args.k in
     let ts = A.transitions in
     sent f s _ (status_text i k A ∷ (value_text i k A ∷ [])) (join_text g.R.Rule.rule i k) (
-      c.put_case_lem.new.s,
-      c.put_case_lem.ensures k ts rows ∙ ap (fold f s) (case_line (N.Two WishStatus i k) (λ _. count 1) i k ts),
+      c.put_case.new.s,
+      c.put_case.ensures k ts rows ∙ ap (fold f s) (case_line (N.Two WishStatus i k) (λ _. count 1) i k ts),
       (
         c.put_case-2.new.s,
-        c.put_case-2.ensures k ts rows ∙ ap (fold f c.put_case_lem.new.s) (case_line (N.Two WishValue i k) (written variable_name) i k ts),
+        c.put_case-2.ensures k ts rows ∙ ap (fold f c.put_case.new.s) (case_line (N.Two WishValue i k) (written variable_name) i k ts),
         c.put_join.ensures,
       ),
     )
