@@ -4,7 +4,7 @@ use Rattle.writer.proofs.write.Goals as goal
 pub invariant_of-write_view : goal.invariant_of-write_view
 invariant_of-write_view g c =
     let w = c.in_ok-layout.ensures.exact.agree in
-    (∣ (w.value, w.holds) ∣₁, tt)
+    record { shows = ∣ (w.value, w.holds) ∣₁ }
 
 pub returns-in-Ok : goal.returns-in-Ok
 returns-in-Ok g c =
