@@ -1,4 +1,6 @@
 // Answers questions about system files: one question a line on standard input, one answer a line on standard output.
+#![tactic(auto)]
+
 mod answer;
 mod questions;
 mod words;

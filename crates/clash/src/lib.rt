@@ -1,4 +1,6 @@
 // Wishes for the next value of a variable, and the rules that join and settle them.
+#![tactic(auto)]
+
 mod equal_values;
 mod expressions;
 mod forbid_clash;

@@ -1,4 +1,6 @@
 // Prints system files for a person: those that its arguments name, or the one on standard input.
+#![tactic(auto)]
+
 mod automata;
 mod description;
 mod numbers;

@@ -1,14 +1,11 @@
 -- The text form of an expression is the printing of its tree.
-use Rattle.std.proofs.Common.{◌≡◌, ℕ, suc, ◌<◌, ◌≤◌, List, ◌++◌, pos, negsuc, codes, refl, ap, ◌∙◌, arith}
+use Rattle.std.proofs.Common.{◌≡◌, ℕ, List, ◌++◌, pos, negsuc, codes, refl, ap, ◌∙◌}
 use Rattle.expr.specs.Expr.{Kind, Expr, truth, negate, join, test, literal, variable, sum, branch}
 use Rattle.expr.specs.Text.{text_of, between, joint_text, order_text, sign_text}
 use Rattle.model_text.specs.declared.words.Name.{Name}
-use Rattle.model_text.specs.declared.words.Name.TheVariants as N
-use Rattle.model_text.specs.declared.words.Single.TheVariants.{Variable}
-use Rattle.model_text.specs.declared.words.Double.TheVariants.{WishValue}
 use Rattle.model_text.specs.Words.{name_text}
 use Rattle.model_text.specs.Trees.{print}
-use Rattle.translation.specs.Written.{written, join_name, settle_name}
+use Rattle.translation.specs.Written.{written}
 
 between-both : (a b c d sign : List ℕ) → a ≡ b → c ≡ d → between a sign c ≡ between b sign d
 between-both a b c d sign e h = ap (λ z. between z sign c) e ∙ ap (λ z. between b sign z) h

@@ -1,5 +1,5 @@
 -- The text of a model, group by group: what each automaton, variable and event adds to it.
-use Rattle.std.specs.Prelude.{ℕ, zero, suc, pred, ◌+◌, Bool, true, false, cond, not, ◌&&◌, List, [], ◌∷◌, ◌++◌, length, ℤ, pos, codes, decimal, ◌==◌}
+use Rattle.std.specs.Prelude.{ℕ, zero, suc, pred, ◌+◌, cond, not, ◌&&◌, List, [], ◌∷◌, ◌++◌, length, pos, codes, decimal, ◌==◌}
 use Rattle.std.proofs.Math.Option.{Option, none, some}
 use Rattle.sinks.specs.Text.{each}
 use Rattle.expr.specs.Expr.{Expr, term}

@@ -1,4 +1,6 @@
 // Pieces of a model text, sent to any sink, and the parts of a system that they are made from.
+#![tactic(auto)]
+
 mod loops;
 mod names;
 mod parts;

@@ -1,6 +1,5 @@
 -- Parts of the texts of choices.
 use Rattle.std.specs.Prelude.{ℕ, List, ◌++◌, codes}
-use Rattle.expr.specs.declared.code.Order.TheVariants.{Ne}
 use Rattle.model_text.specs.declared.words.Single.TheVariants.{Choice, Location}
 use Rattle.model_text.specs.declared.words.Double.TheVariants.{Transition}
 use Rattle.model_text.specs.declared.words.Name.TheVariants as N

@@ -1,4 +1,6 @@
 // The choices of automata: the definitions that say when each may be taken, and the steps that they lead to.
+#![tactic(auto)]
+
 mod definitions;
 mod outside;
 mod steps;

@@ -1,4 +1,6 @@
 // Controllability and marking: which transitions are open, which locations and values are marked.
+#![tactic(auto)]
+
 mod controlled;
 mod events;
 mod marks;

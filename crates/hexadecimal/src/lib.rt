@@ -1,4 +1,6 @@
 // Bytes as hexadecimal text: two digits a byte, in either case.
+#![tactic(auto)]
+
 ghost use Rattle.std.specs.Prelude.{◌≡◌, ◌<◌, IfSome, IfOk, vec_items};
 ghost use Rattle.std.specs.Option.{option_map};
 ghost use Rattle.hexadecimal.specs.Hex.{digit_of, pair_of, bytes_of};

@@ -1,4 +1,6 @@
 // Prints the model text of the system file on standard input, under the rule by which a variable keeps its value on a clash.
+#![tactic(auto)]
+
 mod page;
 
 use page::page_of;

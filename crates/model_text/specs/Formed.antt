@@ -1,5 +1,5 @@
 -- Which models are well formed: the limits of a text, and its rules on shapes and on names.
-use Rattle.std.specs.Prelude.{◌≡◌, ℕ, ◌≤◌, List, [], map, length}
+use Rattle.std.specs.Prelude.{◌≡◌, ◌≤◌, List, [], map, length}
 use Rattle.scan.specs.Stands.{Each}
 use Rattle.model_text.specs.declared.words.Kind.{Kind}
 use Rattle.model_text.specs.declared.words.Kind.TheVariants.{Guard}
@@ -10,7 +10,7 @@ use Rattle.model_text.specs.Ranges.{Ranges, RangesFormed}
 use Rattle.model_text.specs.Lines.{Definition}
 use Rattle.model_text.specs.Models.{Model, text}
 use Rattle.model_text.specs.Kinds.{kind_of, Fits}
-use Rattle.model_text.specs.Scopes.{Place, of-state, with-inputs, of-step, Definable, place_of, Allows, Among, Known, Nexts, Named}
+use Rattle.model_text.specs.Scopes.{Place, of-state, of-step, Definable, place_of, Allows, Among, Known, Nexts, Named}
 
 -- an expression of the kind that may stand at the place, whatever its names are
 pub record Shaped (p : Place) (k : Kind) (e : Tree expr) : Type 0 where

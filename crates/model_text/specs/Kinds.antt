@@ -1,5 +1,4 @@
 -- Guards and terms: what is of a kind but for its names, and the kind of each name.
-use Rattle.std.specs.Prelude.{Bool}
 use Rattle.model_text.specs.declared.words.Kind.{Kind}
 use Rattle.model_text.specs.declared.words.Kind.TheVariants.{Guard, Term}
 use Rattle.model_text.specs.declared.words.Operator.TheVariants.{Join, Test, Sum}

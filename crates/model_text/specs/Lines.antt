@@ -1,5 +1,5 @@
 -- The lines of a text, and how each is printed.
-use Rattle.std.specs.Prelude.{ℕ, suc, List, [], ◌∷◌, ◌++◌, ℤ, codes, decimal}
+use Rattle.std.specs.Prelude.{ℕ, List, ◌++◌, ℤ, codes, decimal}
 use Rattle.std.specs.Fmt.{signed_decimal}
 use Rattle.model_text.specs.declared.words.Name.{Name}
 use Rattle.model_text.specs.declared.words.Heading.{Heading}

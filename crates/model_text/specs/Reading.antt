@@ -12,8 +12,8 @@ use Rattle.model_text.specs.declared.words.Name.TheVariants as N
 use Rattle.model_text.specs.declared.words.Single.{Single}
 use Rattle.model_text.specs.declared.words.Single.TheVariants as S
 use Rattle.model_text.specs.Words.{GoodName}
-use Rattle.model_text.specs.Ranges.{Span, SpanFormed, Ranges}
-use Rattle.model_text.specs.Lines.{Definition, Line, rule, heading, range, define, constrain}
+use Rattle.model_text.specs.Ranges.{SpanFormed, Ranges}
+use Rattle.model_text.specs.Lines.{Line, rule, heading, range, define, constrain}
 use Rattle.model_text.specs.Kinds.{kind_of}
 use Rattle.model_text.specs.Scopes.{Place, of-state, of-step, Definable, place_of, Among}
 use Rattle.model_text.specs.Formed.{Shaped, NamesRight}

@@ -1,5 +1,5 @@
 -- Expressions of a text as trees, in which a name may stand anywhere, and how they are printed.
-use Rattle.std.specs.Prelude.{ℕ, suc, ◌<◌, ◌≤◌, max, List, [], ◌∷◌, ◌++◌, codes, decimal}
+use Rattle.std.specs.Prelude.{ℕ, suc, ◌<◌, ◌≤◌, max, List, ◌++◌, codes, decimal}
 use Rattle.model_text.specs.declared.words.Operator.{Operator}
 use Rattle.model_text.specs.declared.words.Single.{Single}
 use Rattle.model_text.specs.declared.words.Single.TheVariants.{Choice, Location, Variable, SettledValue, Permission, PlantsOpen, LocationMarked}

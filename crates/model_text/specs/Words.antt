@@ -1,5 +1,5 @@
 -- How words and operators are spelled.
-use Rattle.std.specs.Prelude.{◌≡◌, ℕ, ◌≤◌, Bool, true, false, ◌⊎◌, List, [], ◌∷◌, ◌++◌, codes, decimal}
+use Rattle.std.specs.Prelude.{◌≡◌, ℕ, ◌≤◌, ◌⊎◌, List, [], ◌∷◌, ◌++◌, codes, decimal}
 use Rattle.expr.specs.Text.{truth_text, joint_text, order_text, sign_text}
 use Rattle.model_text.specs.declared.words.Operator.{Operator}
 use Rattle.model_text.specs.declared.words.Operator.TheVariants.{Join, Test, Sum}

@@ -1,4 +1,6 @@
 // Sets of the small numbers that events and locations have, and how they are told.
+#![tactic(auto)]
+
 mod collect;
 mod numbers;
 

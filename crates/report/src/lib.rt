@@ -1,4 +1,6 @@
 // Refusals as programs print them.
+#![tactic(auto)]
+
 ghost use Rattle.std.specs.Prelude.{Some};
 ghost use Rattle.report.specs.Lines.{refused_line};
 

@@ -1,4 +1,6 @@
 // Reading a file forward: the refusals with their places, and the smallest readers.
+#![tactic(auto)]
+
 ghost use Rattle.std.specs.Prelude.{◌≡◌, ◌+◌, ◌<◌, ◌≤◌, length, IfOk, MatchResult, slice_index};
 ghost use Rattle.scan.specs.Faults.{fault_at};
 ghost use Rattle.scan.specs.Scan.{run, counted, numbered, zero_or_one, pair};

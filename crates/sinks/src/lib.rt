@@ -1,4 +1,6 @@
 // Where bytes go: sinks, and the printing of text, numbers and values to any of them.
+#![tactic(auto)]
+
 ghost use Rattle.std.specs.Prelude.{◌≡◌, ℕ, ◌+◌, ◌^◌, ◌<◌, ◌≤◌, List, length, decimal, fold};
 ghost use Rattle.sinks.specs.Text.{laid, value_text};
 ghost use Rattle.sinks.specs.Post.{Written};

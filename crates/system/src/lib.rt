@@ -1,4 +1,6 @@
 // The system file: events, bounded variables, automata and their transitions.
+#![tactic(auto)]
+
 ghost use Rattle.std.specs.Result.{MatchResult};
 ghost use Rattle.scan.specs.Says.{Says};
 ghost use Rattle.system.specs.System.{System};

@@ -21,7 +21,7 @@ use Rattle.model_text.specs.Scopes.{of-state, with-inputs, Definable, place_of, 
 use Rattle.translation.specs.Systems.{automaton, variable, transition, idle_transition, plant_with}
 use Rattle.translation.specs.Written.{count, written, variable_name, join_name, settle_name, is_at}
 use Rattle.translation.specs.Cases.{only_if, wish_case, openings, marked_at}
-use Rattle.translation.specs.Translate.{unmarked_values, last_automaton, shut_plants, unmarked, body, transitions, choices}
+use Rattle.translation.specs.Translate.{unmarked_values, last_automaton, shut_plants, unmarked, body, choices}
 use Rattle.translation.proofs.Indexed.{only_if_lem, all_at, all_up_to, among-left, length_up_to}
 use Rattle.translation.proofs.Fine.{Usable, Fine, fine_more, fine_name, fine_count, fine_number, fine_test, fine_compared}
 use Rattle.translation.proofs.Expressions.{fine_written, fine_plain}

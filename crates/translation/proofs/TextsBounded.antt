@@ -22,8 +22,7 @@ use Rattle.model_text.specs.Ranges.{Span, Ranges, SpanFormed, RangesFormed}
 use Rattle.model_text.specs.Lines.{Definition, Line, rule, heading, range, define, constrain, constraint_text, line_text}
 use Rattle.model_text.specs.Models.{count_ranges, no_span, span_range, value_ranges, declarations, lines, text}
 use Rattle.model_text.specs.Scopes.{Place, of-state, of-step}
-use Rattle.translation.specs.Systems.{ranges}
-use Rattle.translation.specs.Translate.{names, body, defined, model_of, choices}
+use Rattle.translation.specs.Translate.{names, defined, model_of}
 use Rattle.translation.specs.Readable.{TextsAreBounded}
 use Rattle.translation.proofs.Indexed.{all_at, all_up_to, length_up_to}
 use Rattle.translation.proofs.Fine.{count-length, name-length}

@@ -1,6 +1,5 @@
 -- The model of a system under a clash rule: which names are defined, in which order, and what each says.
-use Rattle.std.specs.Prelude.{ℕ, zero, suc, pred, true, cond, List, [], ◌∷◌, ◌++◌, map, length, ℤ}
-use Rattle.expr.specs.Expr.{Expr, term}
+use Rattle.std.specs.Prelude.{ℕ, zero, suc, pred, true, cond, List, [], ◌∷◌, ◌++◌, map, length}
 use Rattle.expr.specs.declared.code.Joint.TheVariants.{And, Or}
 use Rattle.expr.specs.declared.code.Order.TheVariants.{Eq, Lt}
 use Rattle.clash.specs.Rules.{ClashRule}

@@ -4,7 +4,7 @@ use Rattle.expr.specs.Expr.{Kind, Expr, truth, negate, join, test, literal, vari
 use Rattle.expr.specs.declared.code.Order.{Order}
 use Rattle.expr.specs.declared.code.Order.TheVariants.{Eq, Ne}
 use Rattle.model_text.specs.declared.words.Operator.TheVariants.{Join, Test, Sum}
-use Rattle.model_text.specs.declared.words.Single.TheVariants.{Choice, Location, Variable}
+use Rattle.model_text.specs.declared.words.Single.TheVariants.{Variable}
 use Rattle.model_text.specs.declared.words.Double.TheVariants.{WishStatus, WishValue, JoinedStatus, JoinedValue}
 use Rattle.model_text.specs.declared.words.Name.{Name}
 use Rattle.model_text.specs.declared.words.Name.TheVariants as N

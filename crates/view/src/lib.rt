@@ -1,4 +1,6 @@
 // An accepted system file, walked without checking it again.
+#![tactic(auto)]
+
 mod look;
 mod parts;
 mod rows;

@@ -1,5 +1,5 @@
 -- No name, word or operator where none of its forms stands.
-use Rattle.std.proofs.Common.{◌≡◌, ℕ, ◌<◌, ◌≤◌, true, false, List, ◌++◌, drop, codes, sym, subst, arith}
+use Rattle.std.proofs.Common.{◌≡◌, ℕ, ◌≤◌, true, false, List, ◌++◌, drop, codes, sym, subst, arith}
 use Rattle.expr.specs.declared.code.Joint.{Joint}
 use Rattle.expr.specs.declared.code.Joint.TheVariants.{And, Or}
 use Rattle.expr.specs.declared.code.Order.{Order}

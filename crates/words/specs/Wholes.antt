@@ -1,5 +1,5 @@
 -- A given text as a whole word at a place of s.
-use Rattle.std.specs.Prelude.{◌≡◌, ℕ, ◌<◌, List, ◌++◌, length, drop, Some, None, Option, ◌≢◌}
+use Rattle.std.specs.Prelude.{ℕ, ◌<◌, List, ◌++◌, length, drop, Some, None, Option, ◌≢◌}
 use Rattle.model_text.specs.Words.{Stops}
 use Rattle.words.specs.Expecting.{Stands}
 

@@ -1,4 +1,6 @@
 // Reading the words of a model text in place.
+#![tactic(auto)]
+
 mod expected;
 mod found;
 mod lexed;

@@ -11,7 +11,6 @@ use Rattle.system.specs.Scan.{answer}
 use Rattle.system.specs.Encode.{encode}
 use Rattle.system.specs.Shows.{Shows}
 use Rattle.system.specs.declared.layout.Layout.{Layout}
-use Rattle.system.specs.Verdict.{StandsFor}
 use Rattle.system.proofs.Files.{encodes_accepted, one_system}
 use Rattle.model_text.specs.Models.{text}
 use Rattle.model_text.proofs.OneToOne.{printing_one_to_one}
@@ -20,7 +19,7 @@ use Rattle.translation.proofs.ModelsFormed.{models_formed}
 use Rattle.translation.proofs.TextsBounded.{texts_bounded}
 use Rattle.emit.specs.Texts.{whole_text}
 use Rattle.emit.proofs.GroupsWhole.{groups_whole}
-use Rattle.writer.specs.Answered.{text_by, file_text, AnsweredBy, Answered, TextAnswered, Refused, SaysSystem}
+use Rattle.writer.specs.Answered.{text_by, file_text, AnsweredBy, Answered, TextAnswered, SaysSystem}
 
 module _ (R : ClashRule) (s : List ℕ) (l : Layout) (S : System) (h : Shows s l S) where
   shown_accepted : answer s ≡ good S (length (encode S))

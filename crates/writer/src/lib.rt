@@ -1,4 +1,6 @@
 // From a system file to its model text.
+#![tactic(auto)]
+
 ghost use Rattle.std.specs.Prelude.{take, IfOk};
 ghost use Rattle.sinks.specs.Post.{Written};
 ghost use Rattle.writer.specs.Answered.{file_text, Answered, SaysSystem};

@@ -1,4 +1,4 @@
-use Rattle.writer.proofs.Texts.{answered, refused, says-system, text_in_front}
+use Rattle.writer.proofs.Texts.{answered, says-system, text_in_front}
 use Rattle.writer.proofs.write.Goals as goal
 
 pub invariant_of-write_view : goal.invariant_of-write_view

@@ -1,4 +1,4 @@
-use Rattle.std.proofs.Common.{[], ◌∷◌, codes, decimal, refl}
+use Rattle.std.proofs.Common.{[], ◌∷◌, codes, decimal}
 use Rattle.expr.specs.Text.{order_text}
 use Rattle.model_text.specs.Words.{name_text}
 use Rattle.emit.proofs.Sent.{sent}

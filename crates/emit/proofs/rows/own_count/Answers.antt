@@ -1,4 +1,4 @@
-use Rattle.std.proofs.Common.{sym, subst, arith}
+use Rattle.std.proofs.Common.{subst, arith}
 use Rattle.std.proofs.lemmas.List.{drop-drop}
 use Rattle.view.specs.Shown.{RowsOf}
 use Rattle.emit.proofs.OwnRows.{own_more, own_all, rows_long}

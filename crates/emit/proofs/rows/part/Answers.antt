@@ -1,4 +1,4 @@
-use Rattle.std.proofs.Common.{◌∷◌, take, subst}
+use Rattle.std.proofs.Common.{take, subst}
 use mathlib.Core.Logic.{∥∥₁_map}
 use Rattle.view.specs.Shown.{RowsOf}
 use Rattle.view.specs.Walk.{RowsAt}

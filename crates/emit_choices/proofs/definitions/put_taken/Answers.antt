@@ -1,4 +1,4 @@
-use Rattle.std.proofs.Common.{[], ◌∷◌, codes, fold, sym, ap, ◌∙◌}
+use Rattle.std.proofs.Common.{[], ◌∷◌, codes, fold, ap, ◌∙◌}
 use Rattle.model_text.specs.declared.words.Single.TheVariants.{Location}
 use Rattle.model_text.specs.declared.words.Name.TheVariants as N
 use Rattle.model_text.specs.Trees.{print}

@@ -2,7 +2,6 @@ use Rattle.std.proofs.Common.{◌≡◌, ◌<◌, length, sym, refl, ◌∙◌, 
 use Rattle.std.proofs.lemmas.Result.{err_from_is_err_and}
 use Rattle.scan.proofs.Runs.{answers}
 use Rattle.scan.proofs.Loops.{going_all}
-use Rattle.system.specs.Scan.{owner}
 use Rattle.system.proofs.Rows.{rows_bad, rows_begin, owner_bad, row_bad, row_read, owner_of}
 use Rattle.system.proofs.transitions.check_rows.Goals as goal
 

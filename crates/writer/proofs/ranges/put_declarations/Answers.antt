@@ -1,4 +1,4 @@
-use Rattle.std.proofs.Common.{◌≡◌, pred, [], ◌∷◌, length, codes, decimal, fold, sym, ap, ◌∙◌, arith}
+use Rattle.std.proofs.Common.{◌≡◌, pred, [], ◌∷◌, length, codes, decimal, fold, ap, ◌∙◌, arith}
 use Rattle.model_text.specs.Lists.{up_to}
 use Rattle.translation.specs.Systems.{variable}
 use Rattle.emit.specs.Texts.{choice_range, location_range, value_range, of_automata, of_variables}

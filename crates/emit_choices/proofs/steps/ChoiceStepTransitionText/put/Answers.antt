@@ -1,4 +1,4 @@
-use Rattle.std.proofs.Common.{[], ◌∷◌, codes, decimal, fold, sym, ap, ◌∙◌}
+use Rattle.std.proofs.Common.{[], ◌∷◌, codes, decimal, fold, ap, ◌∙◌}
 use Rattle.model_text.specs.declared.words.Single.TheVariants.{Choice, Location}
 use Rattle.model_text.specs.declared.words.Double.TheVariants.{Transition}
 use Rattle.model_text.specs.declared.words.Name.TheVariants as N
