@@ -1,6 +1,6 @@
 use Rattle.expr.specs.Expr.{guard}
 use Rattle.expr.proofs.Places.{coded_placed, coded_standing}
-use Rattle.expr.proofs.checked.Guard.put.Goals as goal
+use Rattle.expr.proofs.expression.GuardExpression.put.Goals as goal
 
 pub put_guard-requires : goal.put_guard-requires
 put_guard-requires g c = coded_standing guard _ c.args.self.now.coded

@@ -1,6 +1,6 @@
 use Rattle.expr.specs.Expr.{term}
 use Rattle.expr.proofs.Places.{coded_placed, coded_standing}
-use Rattle.expr.proofs.checked.Term.put.Goals as goal
+use Rattle.expr.proofs.expression.TermExpression.put.Goals as goal
 
 pub put_term-requires : goal.put_term-requires
 put_term-requires g c = coded_standing term _ c.args.self.now.coded
