@@ -3,7 +3,7 @@ use Rattle.std.proofs.lemmas.Result.{err_from_is_err_and}
 use Rattle.scan.proofs.Runs.{answers}
 use Rattle.scan.proofs.Loops.{going_all}
 use Rattle.system.proofs.Updates.{updates_bad, updates_begin, variable_bad, term_bad, update_read}
-use Rattle.system.proofs.transitions.check_updates.Goals as goal
+use Rattle.system.proofs.transitions.Row.check_updates.Goals as goal
 
 pub returns-in_err-updates : goal.returns-in_err-updates
 returns-in_err-updates c =
