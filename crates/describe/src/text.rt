@@ -1,7 +1,7 @@
 // The text form of guards and terms.
 ghost use Rattle.describe.specs.Grown.{grown};
 
-use expr::{Guard, Numbered, Term};
+use expr::{Expression, Guard, Numbered, Term};
 use sinks::Sink;
 use std::fmt;
 

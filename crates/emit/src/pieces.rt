@@ -6,7 +6,6 @@ ghost use Rattle.translation.specs.Written.{compared};
 
 use crate::names::put_name;
 use expr::code::Order;
-use expr::put_order;
 use model_text::Name;
 use sinks::{Sink, put_number, put_text};
 
@@ -16,7 +15,7 @@ pub fn put_compared<S: Sink>(s: &mut S, x: Name, order: Order, n: u16)
 {
     put_text(s, b"(");
     put_name(s, x);
-    put_order(s, order);
+    put_text(s, order.text());
     put_number(s, n as u64);
     put_text(s, b")");
 }

@@ -9,7 +9,7 @@ ghost use Rattle.emit_wishes.specs.Lines.{defined};
 
 use clash::{Rule, joined_status_term, joined_value_term, permission_guard, settled_value_term};
 use emit::{Joining, Settling, begin_definition, put_name};
-use expr::{Guard, Names, Term};
+use expr::{Expression, Guard, Names, Term};
 use model_text::{Double, Name, Single};
 use sinks::{Sink, put_text};
 

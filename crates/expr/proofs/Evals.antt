@@ -1,5 +1,5 @@
 -- How large the value of a term is, by the bytes that it takes, and what an evaluator answers.
-use Rattle.std.proofs.Common.{◌≡◌, ℕ, ◌+◌, ◌-◌, ◌≤◌, Bool, true, false, cond, List, length, ℤ, pos, negsuc, arith, w16, w32, SFits, to_z, of_z}
+use Rattle.std.proofs.Common.{◌≡◌, ℕ, ◌+◌, ◌-◌, ◌≤◌, List, length, ℤ, pos, negsuc, arith, w16, w32, SFits, to_z, of_z}
 use Rattle.std.proofs.lemmas.Int.{ints, to_z-of_z}
 use Rattle.expr.specs.declared.code.Sign.{Sign}
 use Rattle.expr.specs.declared.code.Sign.TheVariants.{Plus, Minus}
@@ -15,10 +15,6 @@ within-sum Minus p q n a b ha hb h = record { low = omega (arith, ints); high = 
 
 pub within_more : (p n : ℕ) (a : ℤ) → Within p a → p ≤ n → Within n a
 within_more p n a ha h = record { low = omega (arith, ints); high = omega (arith, ints) }
-
-pub within-either : (g : Bool) (p q n : ℕ) (a b : ℤ) → Within p a → Within q b → p ≤ n → q ≤ n → Within n (cond g a b)
-within-either true p q n a b ha hb h k = within_more p n a ha h
-within-either false p q n a b ha hb h k = within_more q n b hb k
 
 pub within-value : (z : ℤ) → SFits w16 z → Within 2 z
 within-value (pos n) h = record { low = omega (arith, ints, h.sfits); high = omega (arith, ints, h.sfits) }
@@ -53,6 +49,3 @@ module _ (values : List ℤ) (s : List ℕ) (long : length s ≤ 255) where
   term_whole end u spans bound =
       let few : end - 0 ≤ 255 = omega (arith, spans.within) in
       rw (same (end - 0) u few bound) (record { is = λ e h. spans.holds e (coded_placed s e h); bound = small (end - 0) u few bound })
-
-pub chosen : (g h : Bool) (a x b y : ℤ) → g ≡ h → a ≡ x → b ≡ y → cond g a b ≡ cond h x y
-chosen g h a x b y p q r = cc

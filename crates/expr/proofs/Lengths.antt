@@ -1,5 +1,5 @@
 -- An expression behind its length: what its scanner says, from what it says of the expression.
-use Rattle.std.proofs.Common.{◌≡◌, ℕ, zero, suc, ◌+◌, ◌-◌, ◌<◌, ◌≤◌, List, length, IfOk, Ok, Err, Result, sym, ap, ◌∙◌, subst, inl, inr, arith}
+use Rattle.std.proofs.Common.{◌≡◌, ℕ, zero, suc, ◌+◌, ◌-◌, ◌<◌, ◌≤◌, List, length, Ok, Err, Result, sym, ap, ◌∙◌, subst, inl, inr, arith}
 use Rattle.std.proofs.lemmas.Bool.{cases_lt}
 use Rattle.scan.specs.declared.refusal.Origin.{Origin}
 use Rattle.scan.specs.declared.refusal.Fault.{Fault}
@@ -79,8 +79,3 @@ module _ (n : ℕ) (o : Origin) (s : List ℕ) where
               rw (run-then (parse n o 16 k (suc left)) _ s (at + 1) w.end w.value w.is)
               (subst (λ i. Says At r (run (finished n o w.value w.value.left) s i)) (sym e)
               (finish w.value w.value.left stop end r (w.holds.1 ∙ ap (λ i. end - i) e) in' ends))
-
--- the place that is answered lies behind the length and within the file
-pub ended_within : (s : List ℕ) (at stop end : ℕ) (o : Origin) (r : Result ℕ Fault) → at < stop → stop ≤ length s → Ended s stop end o r → IfOk r (λ e. (at < e) × (e ≤ length s))
-ended_within s at stop end o (Ok e) p q h = (omega (arith, h.0, h.1), omega (arith, h.0, h.1))
-ended_within s at stop end o (Err f) p q h = tt

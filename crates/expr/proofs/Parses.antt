@@ -1,5 +1,5 @@
 -- The scanner of expressions reads each well-formed expression from its bytes, and nothing else.
-use Rattle.std.proofs.Common.{◌≡◌, ℕ, zero, suc, ◌+◌, ◌-◌, ◌*◌, ◌/◌, ◌%◌, ◌<◌, ◌≤◌, max, cond, ltb, List, [], ◌∷◌, ◌++◌, length, get_or, sym, refl, ap, ◌∙◌, subst, inl, inr, arith, length-append, w16, SFits, to_z, of_z}
+use Rattle.std.proofs.Common.{Option, Some, None, ◌≡◌, ℕ, zero, suc, ◌+◌, ◌-◌, ◌*◌, ◌/◌, ◌%◌, ◌<◌, ◌≤◌, max, cond, ltb, List, [], ◌∷◌, ◌++◌, length, get_or, sym, refl, ap, ◌∙◌, subst, inl, inr, arith, length-append, w16, SFits, to_z, of_z}
 use Rattle.std.proofs.lemmas.Int.{to_z-of_z, of_z-to_z}
 use Rattle.std.proofs.lemmas.Bool.{lt-ltb, le-ltb, ltb-true, cases_Bool, cases_lt}
 use Rattle.std.proofs.lemmas.Bool.Decides.{nat_tests}
@@ -20,19 +20,19 @@ use Rattle.expr.proofs.Places.{truth_code, joint_code, order_code, sign_code}
 use Rattle.expr.specs.Scan.{Part, next_byte, Reader, one, two, guard_by, term_by, parse}
 
 -- the byte that a code stands for
-abbrev GuardByte : ℕ → GuardCode → Type 0
-GuardByte b (G.Truth v) = b ≡ truth_byte v
-GuardByte b G.Not = b ≡ 0x03
-GuardByte b (G.Join j) = b ≡ joint_byte j
-GuardByte b (G.Test o) = b ≡ order_byte o
-GuardByte b G.Unknown = Unit {0}
+abbrev GuardByte : ℕ → Option GuardCode → Type 0
+GuardByte b (Some (G.Truth v)) = b ≡ truth_byte v
+GuardByte b (Some G.Not) = b ≡ 0x03
+GuardByte b (Some (G.Join j)) = b ≡ joint_byte j
+GuardByte b (Some (G.Test o)) = b ≡ order_byte o
+GuardByte b None = Unit {0}
 
-abbrev TermByte : ℕ → TermCode → Type 0
-TermByte b K.Literal = b ≡ 0x10
-TermByte b K.Variable = b ≡ 0x11
-TermByte b (K.Sum o) = b ≡ sign_byte o
-TermByte b K.Case = b ≡ 0x14
-TermByte b K.Unknown = Unit {0}
+abbrev TermByte : ℕ → Option TermCode → Type 0
+TermByte b (Some K.Literal) = b ≡ 0x10
+TermByte b (Some K.Variable) = b ≡ 0x11
+TermByte b (Some (K.Sum o)) = b ≡ sign_byte o
+TermByte b (Some K.Case) = b ≡ 0x14
+TermByte b None = Unit {0}
 
 guard_byte : (b : ℕ) → GuardByte b (guard_code b)
 guard_byte b = grind (arith, nat_tests)
@@ -104,20 +104,20 @@ module _ (n : ℕ) (o : Origin) (s : List ℕ) (bytes : Bytes s) where
         (omega (arith, f.ends, g.ends)) (omega (arith, f.uses, g.uses))
         (let e = deep a.expr b.expr in omega (arith, f.shallow, g.shallow)) (leaves a.expr b.expr f.leaves g.leaves)
 
-    guard_sound : (code : GuardCode) (left at : ℕ) (p : Part guard) (end : ℕ) → at < length s → GuardByte (get_or s at 0) code → run (guard_by n o read left code) s (at + 1) ≡ good p end → Parsed n (suc d) (suc left) s at p end
+    guard_sound : (code : Option GuardCode) (left at : ℕ) (p : Part guard) (end : ℕ) → at < length s → GuardByte (get_or s at 0) code → run (guard_by n o read left code) s (at + 1) ≡ good p end → Parsed n (suc d) (suc left) s at p end
     unfolding guard_by run
-    guard_sound (G.Truth v) left at p end under head is =
+    guard_sound (Some (G.Truth v)) left at p end under head is =
         let q : at + 1 ≡ end = cc in
         packed left at (truth_byte v) (truth v) [] left p end (cc) under head refl (stands_none s (at + 1)) (omega arith) (omega arith) (omega arith) tt
-    guard_sound G.Not left at p end under head is =
+    guard_sound (Some G.Not) left at p end under head is =
         let r = one_read guard left (at + 1) negate p end is in
         let f = r.1 in
         packed left at 0x03 (negate r.0.expr) (bytes_of r.0.expr) r.0.left p end r.2 under head refl f.stands f.ends f.uses (omega (arith, f.shallow)) f.leaves
-    guard_sound (G.Join j) left at p end under head is = pair_packed guard left at (joint_byte j) (join j) p end under head (λ a b. refl) (λ a b. refl) (λ a b f g. (f, g)) is
-    guard_sound (G.Test q) left at p end under head is = pair_packed term left at (order_byte q) (test q) p end under head (λ a b. refl) (λ a b. refl) (λ a b f g. (f, g)) is
-    guard_sound G.Unknown left at p end under head is = absurd (let z : ◌≡◌ {A = ℕ} 0 1 = cc in omega arith)
+    guard_sound (Some (G.Join j)) left at p end under head is = pair_packed guard left at (joint_byte j) (join j) p end under head (λ a b. refl) (λ a b. refl) (λ a b f g. (f, g)) is
+    guard_sound (Some (G.Test q)) left at p end under head is = pair_packed term left at (order_byte q) (test q) p end under head (λ a b. refl) (λ a b. refl) (λ a b f g. (f, g)) is
+    guard_sound None left at p end under head is = absurd (let z : ◌≡◌ {A = ℕ} 0 1 = cc in omega arith)
 
-    literal_sound : (left at : ℕ) (p : Part term) (end : ℕ) → at < length s → get_or s at 0 ≡ 0x10 → run (term_by n o read left K.Literal) s (at + 1) ≡ good p end → Parsed n (suc d) (suc left) s at p end
+    literal_sound : (left at : ℕ) (p : Part term) (end : ℕ) → at < length s → get_or s at 0 ≡ 0x10 → run (term_by n o read left (Some K.Literal)) s (at + 1) ≡ good p end → Parsed n (suc d) (suc left) s at p end
     unfolding term_by
     literal_sound left at p end under head is =
         let r = next_read left (at + 1) _ p end is in
@@ -135,7 +135,7 @@ module _ (n : ℕ) (o : Origin) (s : List ℕ) (bytes : Bytes s) where
         packed left at 0x10 (literal v) (x ∷ (y ∷ [])) q.0 p end (cc) under head (rw (back, hx, hy))
         (stands_cons s (at + 1) x (y ∷ []) r.2 refl (stands_one s (at + 1 + 1) q.2)) (omega arith) (omega (arith, r.1, q.1)) (omega arith) (fits16 (x * 256 + y) (omega arith))
 
-    variable_sound : (left at : ℕ) (p : Part term) (end : ℕ) → at < length s → get_or s at 0 ≡ 0x11 → run (term_by n o read left K.Variable) s (at + 1) ≡ good p end → Parsed n (suc d) (suc left) s at p end
+    variable_sound : (left at : ℕ) (p : Part term) (end : ℕ) → at < length s → get_or s at 0 ≡ 0x11 → run (term_by n o read left (Some K.Variable)) s (at + 1) ≡ good p end → Parsed n (suc d) (suc left) s at p end
     unfolding term_by run
     variable_sound left at p end under head is =
         let r = next_read left (at + 1) _ p end is in
@@ -148,7 +148,7 @@ module _ (n : ℕ) (o : Origin) (s : List ℕ) (bytes : Bytes s) where
           | inr no' ↦ absurd (let e = rw no' at r.3 in let z : ◌≡◌ {A = ℕ} 0 1 = cc in omega arith)
         ]
 
-    case_sound : (left at : ℕ) (p : Part term) (end : ℕ) → at < length s → get_or s at 0 ≡ 0x14 → run (term_by n o read left K.Case) s (at + 1) ≡ good p end → Parsed n (suc d) (suc left) s at p end
+    case_sound : (left at : ℕ) (p : Part term) (end : ℕ) → at < length s → get_or s at 0 ≡ 0x14 → run (term_by n o read left (Some K.Case)) s (at + 1) ≡ good p end → Parsed n (suc d) (suc left) s at p end
     unfolding term_by
     case_sound left at p end under head is =
         let r = both_read (read guard left) _ s (at + 1) p end is in
@@ -166,13 +166,13 @@ module _ (n : ℕ) (o : Origin) (s : List ℕ) (bytes : Bytes s) where
         (stands_append s r.1 (bytes_of a.expr) (bytes_of b.expr) f.stands (subst (λ m. Stands s m (bytes_of b.expr)) f.ends h.stands))))
         (omega (arith, g.ends, f.ends, h.ends)) (omega (arith, g.uses, f.uses, h.uses)) (omega (arith, g.shallow, f.shallow, h.shallow)) (g.leaves, f.leaves, h.leaves)
 
-    term_sound : (code : TermCode) (left at : ℕ) (p : Part term) (end : ℕ) → at < length s → TermByte (get_or s at 0) code → run (term_by n o read left code) s (at + 1) ≡ good p end → Parsed n (suc d) (suc left) s at p end
+    term_sound : (code : Option TermCode) (left at : ℕ) (p : Part term) (end : ℕ) → at < length s → TermByte (get_or s at 0) code → run (term_by n o read left code) s (at + 1) ≡ good p end → Parsed n (suc d) (suc left) s at p end
     unfolding term_by run
-    term_sound K.Literal left at p end under head is = literal_sound left at p end under head is
-    term_sound K.Variable left at p end under head is = variable_sound left at p end under head is
-    term_sound (K.Sum q) left at p end under head is = pair_packed term left at (sign_byte q) (sum q) p end under head (λ a b. refl) (λ a b. refl) (λ a b f g. (f, g)) is
-    term_sound K.Case left at p end under head is = case_sound left at p end under head is
-    term_sound K.Unknown left at p end under head is = absurd (let z : ◌≡◌ {A = ℕ} 0 1 = cc in omega arith)
+    term_sound (Some K.Literal) left at p end under head is = literal_sound left at p end under head is
+    term_sound (Some K.Variable) left at p end under head is = variable_sound left at p end under head is
+    term_sound (Some (K.Sum q)) left at p end under head is = pair_packed term left at (sign_byte q) (sum q) p end under head (λ a b. refl) (λ a b. refl) (λ a b f g. (f, g)) is
+    term_sound (Some K.Case) left at p end under head is = case_sound left at p end under head is
+    term_sound None left at p end under head is = absurd (let z : ◌≡◌ {A = ℕ} 0 1 = cc in omega arith)
 
   pub sound : (d : ℕ) (k : Kind) (left at : ℕ) (p : Part k) (end : ℕ) → run (parse n o d k left) s at ≡ good p end → Parsed n d left s at p end
   unfolding parse run
@@ -193,7 +193,7 @@ module _ (n : ℕ) (o : Origin) (s : List ℕ) where
       let e : suc rest - 1 ≡ rest = omega arith in
       run-ask o _ s at under ∙ rw (is, e)
 
-  guard_at_lem : (d left at x : ℕ) (rest : List ℕ) (code : GuardCode) → 0 < d → 0 < left → Stands s at (x ∷ rest) → guard_code x ≡ code → run (parse n o d guard left) s at ≡ run (guard_by n o (parse n o (d - 1)) (left - 1) code) s (at + 1)
+  guard_at_lem : (d left at x : ℕ) (rest : List ℕ) (code : Option GuardCode) → 0 < d → 0 < left → Stands s at (x ∷ rest) → guard_code x ≡ code → run (parse n o d guard left) s at ≡ run (guard_by n o (parse n o (d - 1)) (left - 1) code) s (at + 1)
   unfolding parse
   guard_at_lem zero left at x rest code deep some stands is = absurd (let z : ⊥ = omega arith in z)
   guard_at_lem (suc d) left at x rest code deep some stands is =
@@ -201,7 +201,7 @@ module _ (n : ℕ) (o : Origin) (s : List ℕ) where
       let h = stands_head s at x rest stands in
       next_at_lem left at x _ some h.0 h.1 ∙ rw (is, e)
 
-  term_at_lem : (d left at x : ℕ) (rest : List ℕ) (code : TermCode) → 0 < d → 0 < left → Stands s at (x ∷ rest) → term_code x ≡ code → run (parse n o d term left) s at ≡ run (term_by n o (parse n o (d - 1)) (left - 1) code) s (at + 1)
+  term_at_lem : (d left at x : ℕ) (rest : List ℕ) (code : Option TermCode) → 0 < d → 0 < left → Stands s at (x ∷ rest) → term_code x ≡ code → run (parse n o d term left) s at ≡ run (term_by n o (parse n o (d - 1)) (left - 1) code) s (at + 1)
   unfolding parse
   term_at_lem zero left at x rest code deep some stands is = absurd (let z : ⊥ = omega arith in z)
   term_at_lem (suc d) left at x rest code deep some stands is =

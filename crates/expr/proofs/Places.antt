@@ -1,11 +1,11 @@
 -- The parts of an expression that stands in a list, by the code of its first byte.
-use Rattle.std.proofs.Common.{◌≡◌, ℕ, suc, ◌+◌, ◌*◌, ◌/◌, ◌%◌, ◌<◌, ◌≤◌, Bool, true, false, List, [], ◌∷◌, ◌++◌, length, get_or, ℤ, sym, refl, ap, ◌∙◌, subst, arith, length-append, w16, SFits, to_z, of_z}
+use Rattle.std.proofs.Common.{Option, Some, None, IsSome, ◌≡◌, ℕ, suc, ◌+◌, ◌*◌, ◌/◌, ◌%◌, ◌<◌, ◌≤◌, Bool, true, false, List, [], ◌∷◌, ◌++◌, length, get_or, ℤ, sym, refl, ap, ◌∙◌, subst, arith, length-append, w16, SFits, to_z, of_z}
 use mathlib.Core.Logic.{∥∥₁_elim, ∥∥₁_map}
 use native.Mathlib.Bridge.{le_prop}
 use Rattle.std.proofs.lemmas.List.{append-nil}
 use Rattle.std.proofs.lemmas.Int.{to_z-of_z}
 use Rattle.scan.specs.Stands.{Stands}
-use Rattle.scan.proofs.Standing.{stands_front, stands_head, stands_split, stands_within}
+use Rattle.scan.proofs.Standing.{stands_front, stands_head, stands_split}
 use Rattle.expr.specs.declared.code.Joint.{Joint}
 use Rattle.expr.specs.declared.code.Joint.TheVariants.{And, Or}
 use Rattle.expr.specs.declared.code.Order.{Order}
@@ -52,33 +52,33 @@ head_tail (variable v) = refl
 head_tail (sum o a b) = refl
 head_tail (branch g a b) = refl
 
-abbrev guard_head : Expr guard → GuardCode
-guard_head (truth b) = G.Truth b
-guard_head (negate a) = G.Not
-guard_head (join j a b) = G.Join j
-guard_head (test o a b) = G.Test o
+abbrev guard_head : Expr guard → Option GuardCode
+guard_head (truth b) = Some (G.Truth b)
+guard_head (negate a) = Some G.Not
+guard_head (join j a b) = Some (G.Join j)
+guard_head (test o a b) = Some (G.Test o)
 
-abbrev term_head : Expr term → TermCode
-term_head (literal v) = K.Literal
-term_head (variable v) = K.Variable
-term_head (sum o a b) = K.Sum o
-term_head (branch g a b) = K.Case
+abbrev term_head : Expr term → Option TermCode
+term_head (literal v) = Some K.Literal
+term_head (variable v) = Some K.Variable
+term_head (sum o a b) = Some (K.Sum o)
+term_head (branch g a b) = Some K.Case
 
-pub truth_code : (b : Bool) → guard_code (truth_byte b) ≡ G.Truth b
+pub truth_code : (b : Bool) → guard_code (truth_byte b) ≡ Some (G.Truth b)
 truth_code true = refl
 truth_code false = refl
 
-pub joint_code : (j : Joint) → guard_code (joint_byte j) ≡ G.Join j
+pub joint_code : (j : Joint) → guard_code (joint_byte j) ≡ Some (G.Join j)
 joint_code And = refl
 joint_code Or = refl
 
-pub order_code : (o : Order) → guard_code (order_byte o) ≡ G.Test o
+pub order_code : (o : Order) → guard_code (order_byte o) ≡ Some (G.Test o)
 order_code Eq = refl
 order_code Ne = refl
 order_code Lt = refl
 order_code Le = refl
 
-pub sign_code : (o : Sign) → term_code (sign_byte o) ≡ K.Sum o
+pub sign_code : (o : Sign) → term_code (sign_byte o) ≡ Some (K.Sum o)
 sign_code Plus = refl
 sign_code Minus = refl
 
@@ -95,19 +95,19 @@ term_code_lem (sum o a b) = sign_code o
 term_code_lem (branch g a b) = refl
 
 -- the expression that a code begins
-abbrev GuardShape : GuardCode → Expr guard → Type 0
-GuardShape (G.Truth b) e = e ≡ truth b
-GuardShape G.Not e = (a : Expr guard) × (e ≡ negate a)
-GuardShape (G.Join j) e = (a b : Expr guard) × (e ≡ join j a b)
-GuardShape (G.Test o) e = (a b : Expr term) × (e ≡ test o a b)
-GuardShape G.Unknown e = ⊥
+abbrev GuardShape : Option GuardCode → Expr guard → Type 0
+GuardShape (Some (G.Truth b)) e = e ≡ truth b
+GuardShape (Some G.Not) e = (a : Expr guard) × (e ≡ negate a)
+GuardShape (Some (G.Join j)) e = (a b : Expr guard) × (e ≡ join j a b)
+GuardShape (Some (G.Test o)) e = (a b : Expr term) × (e ≡ test o a b)
+GuardShape None e = ⊥
 
-abbrev TermShape : TermCode → Expr term → Type 0
-TermShape K.Literal e = (v : ℤ) × (e ≡ literal v)
-TermShape K.Variable e = (v : ℕ) × (e ≡ variable v)
-TermShape (K.Sum o) e = (a b : Expr term) × (e ≡ sum o a b)
-TermShape K.Case e = (g : Expr guard) × (a : Expr term) × (b : Expr term) × (e ≡ branch g a b)
-TermShape K.Unknown e = ⊥
+abbrev TermShape : Option TermCode → Expr term → Type 0
+TermShape (Some K.Literal) e = (v : ℤ) × (e ≡ literal v)
+TermShape (Some K.Variable) e = (v : ℕ) × (e ≡ variable v)
+TermShape (Some (K.Sum o)) e = (a b : Expr term) × (e ≡ sum o a b)
+TermShape (Some K.Case) e = (g : Expr guard) × (a : Expr term) × (b : Expr term) × (e ≡ branch g a b)
+TermShape None e = ⊥
 
 guard_shape : (e : Expr guard) → GuardShape (guard_head e) e
 guard_shape (truth b) = refl
@@ -125,31 +125,27 @@ module _ {k : Kind} (s : List ℕ) (at : ℕ) (e : Expr k) (p : Placed s at e) w
   first_byte : (at < length s) × (get_or s at 0 ≡ head e) × Stands s (at + 1) (tail e)
   first_byte = stands_head s at (head e) (tail e) (subst (λ xs. Stands s at xs) (head_tail e) p.stands)
 
-  placed_ends : (at < at + length (bytes_of e)) × (at + length (bytes_of e) ≤ length s)
-  placed_ends =
-      let under = first_byte.0 in
-      let some = ap length (head_tail e) in
-      (omega arith, stands_within s at (bytes_of e) (omega arith) p.stands)
-
 pub standing : (k : Kind) (s : List ℕ) (at : ℕ) → ∥ ((e : Expr k) × Placed s at e) ∥₁ → Standing k s at
 standing k s at some = record { some = some; within = ∥∥₁_elim some le_prop (λ w. (first_byte s at w.0 w.1).0) }
 
 module _ (s : List ℕ) (at : ℕ) where
-  guard_at_lem : (code : GuardCode) → code ≡ guard_code (get_or s at 0) → (e : Expr guard) → Placed s at e → GuardShape code e
+  guard_at_lem : (code : Option GuardCode) → code ≡ guard_code (get_or s at 0) → (e : Expr guard) → Placed s at e → GuardShape code e
   guard_at_lem code is e p =
       let same : guard_head e ≡ code = sym (is ∙ ap guard_code (first_byte s at e p).1 ∙ guard_code_lem e) in
       subst (λ c. GuardShape c e) same (guard_shape e)
 
-  term_at_lem : (code : TermCode) → code ≡ term_code (get_or s at 0) → (e : Expr term) → Placed s at e → TermShape code e
+  term_at_lem : (code : Option TermCode) → code ≡ term_code (get_or s at 0) → (e : Expr term) → Placed s at e → TermShape code e
   term_at_lem code is e p =
       let same : term_head e ≡ code = sym (is ∙ ap term_code (first_byte s at e p).1 ∙ term_code_lem e) in
       subst (λ c. TermShape c e) same (term_shape e)
 
-  pub no_guard : G.Unknown ≡ guard_code (get_or s at 0) → Standing guard s at → ⊥
-  no_guard is h = ∥∥₁_elim h.some (λ x y. absurd x) (λ w. guard_at_lem G.Unknown is w.0 w.1)
+  pub some_guard : (o : Option GuardCode) → o ≡ guard_code (get_or s at 0) → Standing guard s at → IsSome o
+  some_guard None is h = absurd (∥∥₁_elim h.some (λ x y. absurd x) (λ w. guard_at_lem None is w.0 w.1))
+  some_guard (Some code) is h = refl
 
-  pub no_term : K.Unknown ≡ term_code (get_or s at 0) → Standing term s at → ⊥
-  no_term is h = ∥∥₁_elim h.some (λ x y. absurd x) (λ w. term_at_lem K.Unknown is w.0 w.1)
+  pub some_term : (o : Option TermCode) → o ≡ term_code (get_or s at 0) → Standing term s at → IsSome o
+  some_term None is h = absurd (∥∥₁_elim h.some (λ x y. absurd x) (λ w. term_at_lem None is w.0 w.1))
+  some_term (Some code) is h = refl
 
 abbrev Fine : {k : Kind} → Expr k → Type 0
 Fine e = Leaves (λ v. v < 256) (SFits w16) e
@@ -161,14 +157,14 @@ pub record Two {j k : Kind} (make : Expr j → Expr j → Expr k) (s : List ℕ)
   fine : (a b : Expr j) → Fine (make a b) → Fine a × Fine b
   shape : (e : Expr k) → Placed s at e → (a b : Expr j) × (e ≡ make a b)
 
-pub join_two : (s : List ℕ) (at : ℕ) (j : Joint) → G.Join j ≡ guard_code (get_or s at 0) → Two (join j) s at
-join_two s at j is = record { lead = joint_byte j; bytes = λ a b. refl; fine = λ a b h. h; shape = guard_at_lem s at (G.Join j) is }
+pub join_two : (s : List ℕ) (at : ℕ) (j : Joint) → Some (G.Join j) ≡ guard_code (get_or s at 0) → Two (join j) s at
+join_two s at j is = record { lead = joint_byte j; bytes = λ a b. refl; fine = λ a b h. h; shape = guard_at_lem s at (Some (G.Join j)) is }
 
-pub test_two : (s : List ℕ) (at : ℕ) (o : Order) → G.Test o ≡ guard_code (get_or s at 0) → Two (test o) s at
-test_two s at o is = record { lead = order_byte o; bytes = λ a b. refl; fine = λ a b h. h; shape = guard_at_lem s at (G.Test o) is }
+pub test_two : (s : List ℕ) (at : ℕ) (o : Order) → Some (G.Test o) ≡ guard_code (get_or s at 0) → Two (test o) s at
+test_two s at o is = record { lead = order_byte o; bytes = λ a b. refl; fine = λ a b h. h; shape = guard_at_lem s at (Some (G.Test o)) is }
 
-pub sum_two : (s : List ℕ) (at : ℕ) (o : Sign) → K.Sum o ≡ term_code (get_or s at 0) → Two (sum o) s at
-sum_two s at o is = record { lead = sign_byte o; bytes = λ a b. refl; fine = λ a b h. h; shape = term_at_lem s at (K.Sum o) is }
+pub sum_two : (s : List ℕ) (at : ℕ) (o : Sign) → Some (K.Sum o) ≡ term_code (get_or s at 0) → Two (sum o) s at
+sum_two s at o is = record { lead = sign_byte o; bytes = λ a b. refl; fine = λ a b h. h; shape = term_at_lem s at (Some (K.Sum o)) is }
 
 -- parts one after another
 module _ {i j : Kind} (s : List ℕ) (at : ℕ) (a : Expr i) (b : Expr j) where
@@ -216,19 +212,19 @@ module _ {j k : Kind} (make : Expr j → Expr j → Expr k) (s : List ℕ) (at :
     }
 
 -- a truth value
-pub truth_spans : (s : List ℕ) (at : ℕ) (b : Bool) (R : Expr guard → Type 0) → G.Truth b ≡ guard_code (get_or s at 0) → Standing guard s at → R (truth b) → Spans guard s at (at + 1) R
+pub truth_spans : (s : List ℕ) (at : ℕ) (b : Bool) (R : Expr guard → Type 0) → Some (G.Truth b) ≡ guard_code (get_or s at 0) → Standing guard s at → R (truth b) → Spans guard s at (at + 1) R
 truth_spans s at b R is h r = record {
-  holds = λ e p. subst R (sym (guard_at_lem s at (G.Truth b) is e p)) r;
-  ends = λ e p. let long : length (bytes_of e) ≡ 1 = ap (λ y. length (bytes_of y)) (guard_at_lem s at (G.Truth b) is e p) in omega arith;
+  holds = λ e p. subst R (sym (guard_at_lem s at (Some (G.Truth b)) is e p)) r;
+  ends = λ e p. let long : length (bytes_of e) ≡ 1 = ap (λ y. length (bytes_of y)) (guard_at_lem s at (Some (G.Truth b)) is e p) in omega arith;
   past = omega arith;
   within = omega (arith, h.within);
 }
 
 -- a negation
-module _ (s : List ℕ) (at : ℕ) (is : G.Not ≡ guard_code (get_or s at 0)) where
+module _ (s : List ℕ) (at : ℕ) (is : Some G.Not ≡ guard_code (get_or s at 0)) where
   negated : (e : Expr guard) → Placed s at e → (a : Expr guard) × (e ≡ negate a) × Placed s (at + 1) a
   negated e p =
-      let x = guard_at_lem s at G.Not is e p in
+      let x = guard_at_lem s at (Some G.Not) is e p in
       let q = subst (λ y. Placed s at y) x.1 p in
       (x.0, x.1, record { stands = (first_byte s at (negate x.0) q).2; leaves = q.leaves })
 
@@ -247,7 +243,7 @@ module _ (s : List ℕ) (at : ℕ) (is : G.Not ≡ guard_code (get_or s at 0)) w
   }
 
 -- a literal
-module _ (s : List ℕ) (at : ℕ) (is : K.Literal ≡ term_code (get_or s at 0)) where
+module _ (s : List ℕ) (at : ℕ) (is : Some K.Literal ≡ term_code (get_or s at 0)) where
   abbrev read : ℤ
   read = to_z w16 (get_or s (at + 1) 0 * 256 + get_or s (at + 1 + 1) 0)
 
@@ -261,7 +257,7 @@ module _ (s : List ℕ) (at : ℕ) (is : K.Literal ≡ term_code (get_or s at 0)
 
   literal_in : (e : Expr term) → Placed s at e → (at + 2 < length s) × (e ≡ literal read)
   literal_in e p =
-      let x = term_at_lem s at K.Literal is e p in
+      let x = term_at_lem s at (Some K.Literal) is e p in
       let q = value_bytes_lem x.0 (subst (λ y. Placed s at y) x.1 p) in
       (q.0, x.1 ∙ ap literal q.1)
 
@@ -277,10 +273,10 @@ module _ (s : List ℕ) (at : ℕ) (is : K.Literal ≡ term_code (get_or s at 0)
   }
 
 -- a variable
-module _ (s : List ℕ) (at : ℕ) (is : K.Variable ≡ term_code (get_or s at 0)) where
+module _ (s : List ℕ) (at : ℕ) (is : Some K.Variable ≡ term_code (get_or s at 0)) where
   variable_in : (e : Expr term) → Placed s at e → (at + 1 < length s) × (e ≡ variable (get_or s (at + 1) 0))
   variable_in e p =
-      let x = term_at_lem s at K.Variable is e p in
+      let x = term_at_lem s at (Some K.Variable) is e p in
       let q = first_byte s at (variable x.0) (subst (λ y. Placed s at y) x.1 p) in
       let number = stands_head s (at + 1) x.0 [] q.2 in
       (number.0, x.1 ∙ ap variable (sym number.1))
@@ -313,10 +309,10 @@ branch_placed s at g a b p =
     let terms = apart s (at + 1 + length (bytes_of g)) a b parts.1 p.leaves.1 p.leaves.2 in
     record { if = g; yes = a; other = b; is = refl; first = record { stands = parts.0; leaves = p.leaves.0 }; second = terms.0; third = terms.1 }
 
-module _ (s : List ℕ) (at : ℕ) (code : K.Case ≡ term_code (get_or s at 0)) where
+module _ (s : List ℕ) (at : ℕ) (code : Some K.Case ≡ term_code (get_or s at 0)) where
   branch_in : (e : Expr term) → Placed s at e → Branch s at e
   branch_in e p =
-      let x = term_at_lem s at K.Case code e p in
+      let x = term_at_lem s at (Some K.Case) code e p in
       let q = branch_placed s at x.0 x.1 x.2 (subst (λ y. Placed s at y) x.3 p) in
       subst (λ y. Branch s at y) (sym x.3) q
 

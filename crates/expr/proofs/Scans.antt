@@ -1,5 +1,5 @@
 -- What the scanner of an expression says, from what it says of the parts.
-use Rattle.std.proofs.Common.{◌≡◌, ℕ, zero, suc, ◌+◌, ◌-◌, ◌<◌, ◌≤◌, Bool, List, length, get_or, IfOk, Ok, Err, Result, sym, refl, ap, ◌∙◌, subst, inl, inr, arith}
+use Rattle.std.proofs.Common.{Option, Some, None, ◌≡◌, ℕ, zero, suc, ◌+◌, ◌-◌, ◌<◌, ◌≤◌, Bool, List, length, get_or, Ok, Err, Result, sym, refl, ap, ◌∙◌, subst, inl, inr, arith}
 use Rattle.std.proofs.lemmas.Bool.{lt-ltb, le-ltb}
 use Rattle.scan.specs.declared.refusal.Origin.{Origin}
 use Rattle.scan.specs.declared.refusal.Fault.{Fault}
@@ -52,7 +52,7 @@ module _ (n : ℕ) (o : Origin) (s : List ℕ) where
   at_none k zero at end b e h = next_goes at end b _ h ∙ run-refuse o Expression s at
   at_none k (suc d) at end b e h = absurd (let z : ⊥ = omega arith in z)
 
-  pub at_guard : (d at end b : ℕ) (code : GuardCode) → (d ≡ 0 → ⊥) → (at < end) × (at < length s) × (b ≡ get_or s at 0) → code ≡ guard_code b → run (parse n o d guard (end - at)) s at ≡ run (guard_by n o (parse n o (d - 1)) (end - (at + 1)) code) s (at + 1)
+  pub at_guard : (d at end b : ℕ) (code : Option GuardCode) → (d ≡ 0 → ⊥) → (at < end) × (at < length s) × (b ≡ get_or s at 0) → code ≡ guard_code b → run (parse n o d guard (end - at)) s at ≡ run (guard_by n o (parse n o (d - 1)) (end - (at + 1)) code) s (at + 1)
   unfolding parse
   at_guard zero at end b code some h is = absurd (some refl)
   at_guard (suc d) at end b code some h is =
@@ -60,7 +60,7 @@ module _ (n : ℕ) (o : Origin) (s : List ℕ) where
       next_goes at end b _ h ∙ ap (λ x. run (guard_by n o (parse n o d) (end - (at + 1)) x) s (at + 1)) (sym is)
       ∙ ap (λ x. run (guard_by n o (parse n o x) (end - (at + 1)) code) s (at + 1)) e
 
-  pub at_term : (d at end b : ℕ) (code : TermCode) → (d ≡ 0 → ⊥) → (at < end) × (at < length s) × (b ≡ get_or s at 0) → code ≡ term_code b → run (parse n o d term (end - at)) s at ≡ run (term_by n o (parse n o (d - 1)) (end - (at + 1)) code) s (at + 1)
+  pub at_term : (d at end b : ℕ) (code : Option TermCode) → (d ≡ 0 → ⊥) → (at < end) × (at < length s) × (b ≡ get_or s at 0) → code ≡ term_code b → run (parse n o d term (end - at)) s at ≡ run (term_by n o (parse n o (d - 1)) (end - (at + 1)) code) s (at + 1)
   unfolding parse
   at_term zero at end b code some h is = absurd (some refl)
   at_term (suc d) at end b code some h is =
@@ -103,67 +103,67 @@ module _ (n : ℕ) (o : Origin) (s : List ℕ) where
 
 -- an operator and its parts, where a byte stands at the place and the depth is not used up
 module _ (n : ℕ) (o : Origin) (s : List ℕ) (d at end b : ℕ) (some : d ≡ 0 → ⊥) (byte : (at < end) × (at < length s) × (b ≡ get_or s at 0)) where
-  pub truth_read : (v : Bool) → G.Truth v ≡ guard_code b → Says (Until end) (Ok (at + 1)) (run (parse n o d guard (end - at)) s at)
+  pub truth_read : (v : Bool) → Some (G.Truth v) ≡ guard_code b → Says (Until end) (Ok (at + 1)) (run (parse n o d guard (end - at)) s at)
   unfolding guard_by
   truth_read v is = says_by (Until end) _ _ _ (at_guard n o s d at end b _ some byte is) (answers (Until end) _ (at + 1) _ (at + 1) (run-done _ s (at + 1)) (refl, refl))
 
-  pub unknown_guard : G.Unknown ≡ guard_code b → run (parse n o d guard (end - at)) s at ≡ bad (fault_at (Breaks Expression) o at)
+  pub unknown_guard : None ≡ guard_code b → run (parse n o d guard (end - at)) s at ≡ bad (fault_at (Breaks Expression) o at)
   unfolding guard_by
   unknown_guard is = at_guard n o s d at end b _ some byte is ∙ run-refuse o Expression s at
 
-  pub unknown_term : K.Unknown ≡ term_code b → run (parse n o d term (end - at)) s at ≡ bad (fault_at (Breaks Expression) o at)
+  pub unknown_term : None ≡ term_code b → run (parse n o d term (end - at)) s at ≡ bad (fault_at (Breaks Expression) o at)
   unfolding term_by
   unknown_term is = at_term n o s d at end b _ some byte is ∙ run-refuse o Expression s at
 
-  pub not_read : (r : Result ℕ Fault) → G.Not ≡ guard_code b → Says (Until end) r (run (parse n o (d - 1) guard (end - (at + 1))) s (at + 1)) → Says (Until end) r (run (parse n o d guard (end - at)) s at)
+  pub not_read : (r : Result ℕ Fault) → Some G.Not ≡ guard_code b → Says (Until end) r (run (parse n o (d - 1) guard (end - (at + 1))) s (at + 1)) → Says (Until end) r (run (parse n o d guard (end - at)) s at)
   unfolding guard_by
   not_read r is says = says_by (Until end) _ r _ (at_guard n o s d at end b _ some byte is) (last_read n o s (parse n o (d - 1)) guard (at + 1) end _ negate r refl says)
 
-  pub join_bad : (j : Joint) (f : Fault) → G.Join j ≡ guard_code b → Says (Until end) (Err f) (run (parse n o (d - 1) guard (end - (at + 1))) s (at + 1)) → run (parse n o d guard (end - at)) s at ≡ bad f
+  pub join_bad : (j : Joint) (f : Fault) → Some (G.Join j) ≡ guard_code b → Says (Until end) (Err f) (run (parse n o (d - 1) guard (end - (at + 1))) s (at + 1)) → run (parse n o d guard (end - at)) s at ≡ bad f
   unfolding guard_by
   join_bad j f is says = at_guard n o s d at end b _ some byte is ∙ run-fails (parse n o (d - 1) guard (end - (at + 1))) _ s (at + 1) f says.agree
 
-  pub join_read : (j : Joint) (next : ℕ) (r : Result ℕ Fault) → G.Join j ≡ guard_code b → Says (Until end) (Ok next) (run (parse n o (d - 1) guard (end - (at + 1))) s (at + 1)) → Says (Until end) r (run (parse n o (d - 1) guard (end - next)) s next) → Says (Until end) r (run (parse n o d guard (end - at)) s at)
+  pub join_read : (j : Joint) (next : ℕ) (r : Result ℕ Fault) → Some (G.Join j) ≡ guard_code b → Says (Until end) (Ok next) (run (parse n o (d - 1) guard (end - (at + 1))) s (at + 1)) → Says (Until end) r (run (parse n o (d - 1) guard (end - next)) s next) → Says (Until end) r (run (parse n o d guard (end - at)) s at)
   unfolding guard_by
   join_read j next r is first last =
       says_by (Until end) _ r _ (at_guard n o s d at end b _ some byte is)
       (first_part n o s (parse n o (d - 1)) guard (at + 1) end next _ r first
       (λ a left. last_read n o s (parse n o (d - 1)) guard next end a.left (join j a.expr) r left last))
 
-  pub test_bad : (q : Order) (f : Fault) → G.Test q ≡ guard_code b → Says (Until end) (Err f) (run (parse n o (d - 1) term (end - (at + 1))) s (at + 1)) → run (parse n o d guard (end - at)) s at ≡ bad f
+  pub test_bad : (q : Order) (f : Fault) → Some (G.Test q) ≡ guard_code b → Says (Until end) (Err f) (run (parse n o (d - 1) term (end - (at + 1))) s (at + 1)) → run (parse n o d guard (end - at)) s at ≡ bad f
   unfolding guard_by
   test_bad q f is says = at_guard n o s d at end b _ some byte is ∙ run-fails (parse n o (d - 1) term (end - (at + 1))) _ s (at + 1) f says.agree
 
-  pub test_read : (q : Order) (next : ℕ) (r : Result ℕ Fault) → G.Test q ≡ guard_code b → Says (Until end) (Ok next) (run (parse n o (d - 1) term (end - (at + 1))) s (at + 1)) → Says (Until end) r (run (parse n o (d - 1) term (end - next)) s next) → Says (Until end) r (run (parse n o d guard (end - at)) s at)
+  pub test_read : (q : Order) (next : ℕ) (r : Result ℕ Fault) → Some (G.Test q) ≡ guard_code b → Says (Until end) (Ok next) (run (parse n o (d - 1) term (end - (at + 1))) s (at + 1)) → Says (Until end) r (run (parse n o (d - 1) term (end - next)) s next) → Says (Until end) r (run (parse n o d guard (end - at)) s at)
   unfolding guard_by
   test_read q next r is first last =
       says_by (Until end) _ r _ (at_guard n o s d at end b _ some byte is)
       (first_part n o s (parse n o (d - 1)) term (at + 1) end next _ r first
       (λ a left. last_read n o s (parse n o (d - 1)) term next end a.left (test q a.expr) r left last))
 
-  pub sum_bad : (q : Sign) (f : Fault) → K.Sum q ≡ term_code b → Says (Until end) (Err f) (run (parse n o (d - 1) term (end - (at + 1))) s (at + 1)) → run (parse n o d term (end - at)) s at ≡ bad f
+  pub sum_bad : (q : Sign) (f : Fault) → Some (K.Sum q) ≡ term_code b → Says (Until end) (Err f) (run (parse n o (d - 1) term (end - (at + 1))) s (at + 1)) → run (parse n o d term (end - at)) s at ≡ bad f
   unfolding term_by
   sum_bad q f is says = at_term n o s d at end b _ some byte is ∙ run-fails (parse n o (d - 1) term (end - (at + 1))) _ s (at + 1) f says.agree
 
-  pub sum_read : (q : Sign) (next : ℕ) (r : Result ℕ Fault) → K.Sum q ≡ term_code b → Says (Until end) (Ok next) (run (parse n o (d - 1) term (end - (at + 1))) s (at + 1)) → Says (Until end) r (run (parse n o (d - 1) term (end - next)) s next) → Says (Until end) r (run (parse n o d term (end - at)) s at)
+  pub sum_read : (q : Sign) (next : ℕ) (r : Result ℕ Fault) → Some (K.Sum q) ≡ term_code b → Says (Until end) (Ok next) (run (parse n o (d - 1) term (end - (at + 1))) s (at + 1)) → Says (Until end) r (run (parse n o (d - 1) term (end - next)) s next) → Says (Until end) r (run (parse n o d term (end - at)) s at)
   unfolding term_by
   sum_read q next r is first last =
       says_by (Until end) _ r _ (at_term n o s d at end b _ some byte is)
       (first_part n o s (parse n o (d - 1)) term (at + 1) end next _ r first
       (λ a left. last_read n o s (parse n o (d - 1)) term next end a.left (sum q a.expr) r left last))
 
-  pub case_bad : (f : Fault) → K.Case ≡ term_code b → Says (Until end) (Err f) (run (parse n o (d - 1) guard (end - (at + 1))) s (at + 1)) → run (parse n o d term (end - at)) s at ≡ bad f
+  pub case_bad : (f : Fault) → Some K.Case ≡ term_code b → Says (Until end) (Err f) (run (parse n o (d - 1) guard (end - (at + 1))) s (at + 1)) → run (parse n o d term (end - at)) s at ≡ bad f
   unfolding term_by
   case_bad f is says = at_term n o s d at end b _ some byte is ∙ run-fails (parse n o (d - 1) guard (end - (at + 1))) _ s (at + 1) f says.agree
 
-  pub case_then_bad : (next : ℕ) (f : Fault) → K.Case ≡ term_code b → Says (Until end) (Ok next) (run (parse n o (d - 1) guard (end - (at + 1))) s (at + 1)) → Says (Until end) (Err f) (run (parse n o (d - 1) term (end - next)) s next) → run (parse n o d term (end - at)) s at ≡ bad f
+  pub case_then_bad : (next : ℕ) (f : Fault) → Some K.Case ≡ term_code b → Says (Until end) (Ok next) (run (parse n o (d - 1) guard (end - (at + 1))) s (at + 1)) → Says (Until end) (Err f) (run (parse n o (d - 1) term (end - next)) s next) → run (parse n o d term (end - at)) s at ≡ bad f
   unfolding term_by
   case_then_bad next f is first second =
       at_term n o s d at end b _ some byte is
       ∙ first_read n o s (parse n o (d - 1)) guard (at + 1) end next _ (bad f) first
       (λ g left. ap (λ l. run (two n o (parse n o (d - 1)) term l (branch g.expr)) s next) left ∙ run-fails (parse n o (d - 1) term (end - next)) _ s next f second.agree)
 
-  pub case_read : (next last : ℕ) (r : Result ℕ Fault) → K.Case ≡ term_code b → Says (Until end) (Ok next) (run (parse n o (d - 1) guard (end - (at + 1))) s (at + 1)) → Says (Until end) (Ok last) (run (parse n o (d - 1) term (end - next)) s next) → Says (Until end) r (run (parse n o (d - 1) term (end - last)) s last) → Says (Until end) r (run (parse n o d term (end - at)) s at)
+  pub case_read : (next last : ℕ) (r : Result ℕ Fault) → Some K.Case ≡ term_code b → Says (Until end) (Ok next) (run (parse n o (d - 1) guard (end - (at + 1))) s (at + 1)) → Says (Until end) (Ok last) (run (parse n o (d - 1) term (end - next)) s next) → Says (Until end) r (run (parse n o (d - 1) term (end - last)) s last) → Says (Until end) r (run (parse n o d term (end - at)) s at)
   unfolding term_by
   case_read next last r is first second third =
       says_by (Until end) _ r _ (at_term n o s d at end b _ some byte is)
@@ -176,17 +176,17 @@ module _ (n : ℕ) (o : Origin) (s : List ℕ) (d at end b : ℕ) (some : d ≡ 
   abbrev Byte : ℕ → ℕ → Type 0
   Byte place x = (place < end) × (place < length s) × (x ≡ get_or s place 0)
 
-  pub literal_stops : (f : Fault) → K.Literal ≡ term_code b → Stops s o (at + 1) end f → run (parse n o d term (end - at)) s at ≡ bad f
+  pub literal_stops : (f : Fault) → Some K.Literal ≡ term_code b → Stops s o (at + 1) end f → run (parse n o d term (end - at)) s at ≡ bad f
   unfolding term_by
   literal_stops f is h = at_term n o s d at end b _ some byte is ∙ next_stops n o s (at + 1) end f _ (omega arith) h
 
-  pub literal_stops_later : (x : ℕ) (f : Fault) → K.Literal ≡ term_code b → Byte (at + 1) x → Stops s o (at + 2) end f → run (parse n o d term (end - at)) s at ≡ bad f
+  pub literal_stops_later : (x : ℕ) (f : Fault) → Some K.Literal ≡ term_code b → Byte (at + 1) x → Stops s o (at + 2) end f → run (parse n o d term (end - at)) s at ≡ bad f
   unfolding term_by
   literal_stops_later x f is p h =
       let e : at + 2 ≡ at + 1 + 1 = omega arith in
       at_term n o s d at end b _ some byte is ∙ next_goes n o s (at + 1) end x _ p ∙ next_stops n o s (at + 1 + 1) end f _ (omega arith) (subst (λ k. Stops s o k end f) e h)
 
-  pub literal_read : (x y : ℕ) → K.Literal ≡ term_code b → Byte (at + 1) x → Byte (at + 2) y → Says (Until end) (Ok (at + 3)) (run (parse n o d term (end - at)) s at)
+  pub literal_read : (x y : ℕ) → Some K.Literal ≡ term_code b → Byte (at + 1) x → Byte (at + 2) y → Says (Until end) (Ok (at + 3)) (run (parse n o d term (end - at)) s at)
   unfolding term_by
   literal_read x y is p q =
       let e : at + 2 ≡ at + 1 + 1 = omega arith in
@@ -194,22 +194,17 @@ module _ (n : ℕ) (o : Origin) (s : List ℕ) (d at end b : ℕ) (some : d ≡ 
       (at_term n o s d at end b _ some byte is ∙ next_goes n o s (at + 1) end x _ p ∙ next_goes n o s (at + 1 + 1) end y _ (subst (λ k. Byte k y) e q) ∙ run-done _ s (at + 1 + 1 + 1))
       (omega arith, refl)
 
-  pub variable_stops : (f : Fault) → K.Variable ≡ term_code b → Stops s o (at + 1) end f → run (parse n o d term (end - at)) s at ≡ bad f
+  pub variable_stops : (f : Fault) → Some K.Variable ≡ term_code b → Stops s o (at + 1) end f → run (parse n o d term (end - at)) s at ≡ bad f
   unfolding term_by
   variable_stops f is h = at_term n o s d at end b _ some byte is ∙ next_stops n o s (at + 1) end f _ (omega arith) h
 
-  pub variable_read : (v : ℕ) → K.Variable ≡ term_code b → Byte (at + 1) v → v < n → Says (Until end) (Ok (at + 2)) (run (parse n o d term (end - at)) s at)
+  pub variable_read : (v : ℕ) → Some K.Variable ≡ term_code b → Byte (at + 1) v → v < n → Says (Until end) (Ok (at + 2)) (run (parse n o d term (end - at)) s at)
   unfolding term_by
   variable_read v is p near =
       answers (Until end) _ (at + 2) (record { expr = variable v; left = end - (at + 1 + 1) }) (at + 1 + 1)
       (at_term n o s d at end b _ some byte is ∙ next_goes n o s (at + 1) end v _ p ∙ rw (lt-ltb v n near) (run-done _ s (at + 1 + 1))) (omega arith, refl)
 
-  pub variable_far : (v : ℕ) → K.Variable ≡ term_code b → Byte (at + 1) v → n ≤ v → run (parse n o d term (end - at)) s at ≡ bad (fault_at (Breaks KnownNumber) o (at + 1))
+  pub variable_far : (v : ℕ) → Some K.Variable ≡ term_code b → Byte (at + 1) v → n ≤ v → run (parse n o d term (end - at)) s at ≡ bad (fault_at (Breaks KnownNumber) o (at + 1))
   unfolding term_by
   variable_far v is p far =
       at_term n o s d at end b _ some byte is ∙ next_goes n o s (at + 1) end v _ p ∙ rw (le-ltb v n far) (run-refuse o KnownNumber s (at + 1))
-
--- an end that lies behind a later place lies behind an earlier one
-pub further : (r : Result ℕ Fault) (at next end long : ℕ) → at ≤ next → IfOk r (λ stop. (next < stop) × (stop ≤ end) × (stop ≤ long)) → IfOk r (λ stop. (at < stop) × (stop ≤ end) × (stop ≤ long))
-further (Ok stop) at next end long h g = (omega arith, g.1, g.2)
-further (Err f) at next end long h g = tt

@@ -1,5 +1,5 @@
 -- Reading an expression from a file, behind its length: which byte is refused, and why.
-use Rattle.std.specs.Prelude.{ℕ, zero, suc, ◌+◌, ◌*◌, cond, nat_lt}
+use Rattle.std.specs.Prelude.{Option, Some, None, ℕ, zero, suc, ◌+◌, ◌*◌, cond, nat_lt}
 use Rattle.std.specs.Int.{w16}
 use Rattle.std.proofs.Common.{to_z}
 use Rattle.scan.specs.declared.refusal.Origin.{Origin}
@@ -34,19 +34,19 @@ module _ (n : ℕ) (o : Origin) where
   abbrev pub two : Reader → (j : Kind) {k : Kind} → ℕ → (Expr j → Expr j → Expr k) → Scan (Part k)
   two read j left make = and_then (read j left) (λ a. one read j a.left (make a.expr))
 
-  unfoldable pub guard_by : Reader → ℕ → GuardCode → Scan (Part guard)
-  guard_by read left (G.Truth b) = done (record { expr = truth b; left = left })
-  guard_by read left G.Not = one read guard left negate
-  guard_by read left (G.Join j) = two read guard left (join j)
-  guard_by read left (G.Test r) = two read term left (test r)
-  guard_by read left G.Unknown = refuse o Expression
+  unfoldable pub guard_by : Reader → ℕ → Option GuardCode → Scan (Part guard)
+  guard_by read left (Some (G.Truth b)) = done (record { expr = truth b; left = left })
+  guard_by read left (Some G.Not) = one read guard left negate
+  guard_by read left (Some (G.Join j)) = two read guard left (join j)
+  guard_by read left (Some (G.Test r)) = two read term left (test r)
+  guard_by read left None = refuse o Expression
 
-  unfoldable pub term_by : Reader → ℕ → TermCode → Scan (Part term)
-  term_by read left K.Literal = next_byte left (λ h more. next_byte more (λ l rest. done (record { expr = literal (to_z w16 (h * 256 + l)); left = rest })))
-  term_by read left K.Variable = next_byte left (λ v rest. cond (nat_lt v n) (done (record { expr = variable v; left = rest })) (refuse o KnownNumber))
-  term_by read left (K.Sum r) = two read term left (sum r)
-  term_by read left K.Case = and_then (read guard left) (λ g. two read term g.left (branch g.expr))
-  term_by read left K.Unknown = refuse o Expression
+  unfoldable pub term_by : Reader → ℕ → Option TermCode → Scan (Part term)
+  term_by read left (Some K.Literal) = next_byte left (λ h more. next_byte more (λ l rest. done (record { expr = literal (to_z w16 (h * 256 + l)); left = rest })))
+  term_by read left (Some K.Variable) = next_byte left (λ v rest. cond (nat_lt v n) (done (record { expr = variable v; left = rest })) (refuse o KnownNumber))
+  term_by read left (Some (K.Sum r)) = two read term left (sum r)
+  term_by read left (Some K.Case) = and_then (read guard left) (λ g. two read term g.left (branch g.expr))
+  term_by read left None = refuse o Expression
 
   -- an expression of a kind that is at most d deep, with that many bytes of its length left
   unfoldable pub parse : ℕ → Reader

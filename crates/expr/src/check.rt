@@ -2,145 +2,145 @@
 ghost use Rattle.std.specs.Prelude.{◌≡◌, ◌+◌, ◌-◌, ◌<◌, ◌≤◌, length, IfOk, MatchResult, slice_index};
 ghost use Rattle.scan.specs.Scan.{run};
 ghost use Rattle.scan.specs.Says.{Says};
-ghost use Rattle.expr.specs.Expr.{guard, term};
 ghost use Rattle.expr.specs.Scan.{parse, sized};
 ghost use Rattle.expr.specs.Ends.{Stops, Until, Lengthy, Ended, At};
 
+use crate::checked::{Guard, Term};
 use crate::code::{GuardCode, TermCode};
-use crate::{guard_code, term_code};
-use scan::{Fault, FileFault, FileRule, Origin, broken, byte_at, fault_at};
+use crate::expression::Expression;
+use scan::{Fault, FileFault, FileRule, Source};
 
-// The next byte of an expression whose length reaches to `end`.
-fn next_byte(file: &[u8], at: usize, end: usize, origin: Origin) -> Result<u8, Fault>
-    requires { 0 < at }
-    ensures { MatchResult result (λ b. (at < end) × (at < length file.now) × (b ≡ slice_index file.now at)) (λ f. Stops file.now origin at end f) }
-{
-    if at < end {
-        byte_at(file, at, origin)
-    } else {
-        Err(broken(FileRule::Expression, origin, at - 1))
+// An expression in a file: where its length reaches to, and how many variables it may use.
+#[derive(Clone, Copy)]
+pub struct Checker<'a> {
+    source: Source<'a>,
+    end: usize,
+    variables: u8,
+}
+
+impl Checker<'_> {
+    // The next byte of the expression.
+    fn next_byte(self, at: usize) -> Result<u8, Fault>
+        requires { 0 < at }
+        ensures { let s = self.entry.source.file.now in MatchResult result (λ b. (at < self.entry.end) × (at < length s) × (b ≡ slice_index s at)) (λ f. Stops s self.entry.source.origin at self.entry.end f) }
+    {
+        if at < self.end {
+            self.source.byte(at)
+        } else {
+            Err(self.source.broken(FileRule::Expression, at - 1))
+        }
+    }
+
+    // Where the expression ends, which was read to `stop`.
+    fn whole(self, stop: usize) -> Result<usize, Fault>
+        requires { (0 < stop) × ((stop ≤ self.end) × (stop ≤ length self.source.file.now)) }
+        ensures { Ended self.entry.source.file.now stop self.entry.end self.entry.source.origin result }
+    {
+        if stop == self.end {
+            Ok(self.end)
+        } else if self.end <= self.source.file.len() {
+            Err(self.source.broken(FileRule::Expression, self.end - 1))
+        } else {
+            let length = self.source.file.len();
+            Err(self.source.fault(FileFault::EndsTooSoon, length))
+        }
     }
 }
 
-// Where a guard ends that begins at `at` and is at most `depth` deep.
-#[cycle(check_guard_check_term)]
-fn check_guard(
-    file: &[u8],
-    at: usize,
-    end: usize,
-    depth: u8,
-    origin: Origin,
-    variables: u8,
-) -> Result<usize, Fault>
-    requires { (0 < at) × (at ≤ end) }
-    ensures says { Says (Until end) result (run (parse variables origin depth guard (end - at)) file.now at) }
-    ensures within { IfOk result (λ stop. (at < stop) × (stop ≤ end) × (stop ≤ length file.now)) }
-{
-    let b = next_byte(file, at, end, origin)?;
-    if depth == 0 {
-        return Err(broken(FileRule::Expression, origin, at));
-    }
-    match guard_code(b) {
-        GuardCode::Truth(_) => Ok(at + 1),
-        GuardCode::Not => check_guard(file, at + 1, end, depth - 1, origin, variables),
-        GuardCode::Join(_) => {
-            let next = check_guard(file, at + 1, end, depth - 1, origin, variables)?;
-            check_guard(file, next, end, depth - 1, origin, variables)
-        }
-        GuardCode::Test(_) => {
-            let next = check_term(file, at + 1, end, depth - 1, origin, variables)?;
-            check_term(file, next, end, depth - 1, origin, variables)
-        }
-        GuardCode::Unknown => Err(broken(FileRule::Expression, origin, at)),
-    }
+// An expression that can be checked in a file. A trait of its own: only where the file's lifetime is the
+// trait's do the impls take over its clauses.
+pub trait Check<'a>: Expression {
+    // Where an expression ends that begins at `at` and is at most `depth` deep.
+    fn end(checker: Checker<'a>, at: usize, depth: u8) -> Result<usize, Fault>
+        requires { (0 < at) × (at ≤ checker.end) }
+        ensures says { Says (Until checker.entry.end) result (run (parse checker.entry.variables checker.entry.source.origin depth Self.kind (checker.entry.end - at)) checker.entry.source.file.now at) }
+        ensures within { IfOk result (λ stop. (at < stop) × (stop ≤ checker.entry.end) × (stop ≤ length checker.entry.source.file.now)) };
 }
 
-// Where a term ends that begins at `at` and is at most `depth` deep.
-#[cycle(check_guard_check_term)]
-fn check_term(
-    file: &[u8],
-    at: usize,
-    end: usize,
-    depth: u8,
-    origin: Origin,
-    variables: u8,
-) -> Result<usize, Fault>
-    requires { (0 < at) × (at ≤ end) }
-    ensures says { Says (Until end) result (run (parse variables origin depth term (end - at)) file.now at) }
-    ensures within { IfOk result (λ stop. (at < stop) × (stop ≤ end) × (stop ≤ length file.now)) }
-{
-    let b = next_byte(file, at, end, origin)?;
-    if depth == 0 {
-        return Err(broken(FileRule::Expression, origin, at));
-    }
-    match term_code(b) {
-        TermCode::Literal => {
-            next_byte(file, at + 1, end, origin)?;
-            next_byte(file, at + 2, end, origin)?;
-            Ok(at + 3)
+impl<'a> Check<'a> for Guard<'a> {
+    #[cycle(end)]
+    fn end(checker: Checker<'a>, at: usize, depth: u8) -> Result<usize, Fault> {
+        let b = checker.next_byte(at)?;
+        if depth == 0 {
+            return Err(checker.source.broken(FileRule::Expression, at));
         }
-        TermCode::Variable => {
-            let v = next_byte(file, at + 1, end, origin)?;
-            if v < variables {
-                Ok(at + 2)
-            } else {
-                Err(broken(FileRule::KnownNumber, origin, at + 1))
+        match GuardCode::of(b) {
+            Some(GuardCode::Truth(_)) => Ok(at + 1),
+            Some(GuardCode::Not) => Guard::end(checker, at + 1, depth - 1),
+            Some(GuardCode::Join(_)) => {
+                let next = Guard::end(checker, at + 1, depth - 1)?;
+                Guard::end(checker, next, depth - 1)
             }
+            Some(GuardCode::Test(_)) => {
+                let next = Term::end(checker, at + 1, depth - 1)?;
+                Term::end(checker, next, depth - 1)
+            }
+            None => Err(checker.source.broken(FileRule::Expression, at)),
         }
-        TermCode::Sum(_) => {
-            let next = check_term(file, at + 1, end, depth - 1, origin, variables)?;
-            check_term(file, next, end, depth - 1, origin, variables)
+    }
+}
+
+impl<'a> Check<'a> for Term<'a> {
+    #[cycle(end)]
+    fn end(checker: Checker<'a>, at: usize, depth: u8) -> Result<usize, Fault> {
+        let b = checker.next_byte(at)?;
+        if depth == 0 {
+            return Err(checker.source.broken(FileRule::Expression, at));
         }
-        TermCode::Case => {
-            let first = check_guard(file, at + 1, end, depth - 1, origin, variables)?;
-            let next = check_term(file, first, end, depth - 1, origin, variables)?;
-            check_term(file, next, end, depth - 1, origin, variables)
+        match TermCode::of(b) {
+            Some(TermCode::Literal) => {
+                checker.next_byte(at + 1)?;
+                checker.next_byte(at + 2)?;
+                Ok(at + 3)
+            }
+            Some(TermCode::Variable) => {
+                let v = checker.next_byte(at + 1)?;
+                if v < checker.variables {
+                    Ok(at + 2)
+                } else {
+                    Err(checker.source.broken(FileRule::KnownNumber, at + 1))
+                }
+            }
+            Some(TermCode::Sum(_)) => {
+                let next = Term::end(checker, at + 1, depth - 1)?;
+                Term::end(checker, next, depth - 1)
+            }
+            Some(TermCode::Case) => {
+                let first = Guard::end(checker, at + 1, depth - 1)?;
+                let next = Term::end(checker, first, depth - 1)?;
+                Term::end(checker, next, depth - 1)
+            }
+            None => Err(checker.source.broken(FileRule::Expression, at)),
         }
-        TermCode::Unknown => Err(broken(FileRule::Expression, origin, at)),
     }
 }
 
 // Where an expression's length reaches to, from the length at `at`, which is not 0.
-fn length_at(file: &[u8], at: usize, origin: Origin) -> Result<usize, Fault>
-    ensures { Lengthy file.now at origin result }
+fn length_at(source: Source, at: usize) -> Result<usize, Fault>
+    ensures { Lengthy source.entry.file.now at source.entry.origin result }
 {
-    let length = byte_at(file, at, origin)?;
+    let length = source.byte(at)?;
     if length == 0 {
-        return Err(broken(FileRule::Expression, origin, at));
+        return Err(source.broken(FileRule::Expression, at));
     }
     Ok(at + 1 + length as usize)
 }
 
-// An expression that was read to `stop`, where its length reaches to `end`.
-fn whole(file: &[u8], stop: usize, end: usize, origin: Origin) -> Result<usize, Fault>
-    requires { (0 < stop) × ((stop ≤ end) × (stop ≤ length file.now)) }
-    ensures { Ended file.now stop end origin result }
+// Where the expression ends whose length stands at `at`.
+pub fn end_at<'a, E: Check<'a>>(
+    source: Source<'a>,
+    at: usize,
+    variables: u8,
+) -> Result<usize, Fault>
+    ensures says { Says At result (run (sized variables source.entry.origin E.kind) source.entry.file.now at) }
+    ensures within { IfOk result (λ end. (at < end) × (end ≤ length source.entry.file.now)) }
 {
-    if stop == end {
-        Ok(end)
-    } else if end <= file.len() {
-        Err(broken(FileRule::Expression, origin, end - 1))
-    } else {
-        Err(fault_at(FileFault::EndsTooSoon, origin, file.len()))
-    }
-}
-
-// Where the guard ends whose length stands at `at`.
-pub fn guard_at(file: &[u8], at: usize, origin: Origin, variables: u8) -> Result<usize, Fault>
-    ensures says { Says At result (run (sized variables origin guard) file.now at) }
-    ensures within { IfOk result (λ end. (at < end) × (end ≤ length file.now)) }
-{
-    let end = length_at(file, at, origin)?;
-    let stop = check_guard(file, at + 1, end, 16, origin, variables)?;
-    whole(file, stop, end, origin)
-}
-
-// Where the term ends whose length stands at `at`.
-pub fn term_at(file: &[u8], at: usize, origin: Origin, variables: u8) -> Result<usize, Fault>
-    ensures says { Says At result (run (sized variables origin term) file.now at) }
-    ensures within { IfOk result (λ end. (at < end) × (end ≤ length file.now)) }
-{
-    let end = length_at(file, at, origin)?;
-    let stop = check_term(file, at + 1, end, 16, origin, variables)?;
-    whole(file, stop, end, origin)
+    let end = length_at(source, at)?;
+    let checker = Checker {
+        source,
+        end,
+        variables,
+    };
+    let stop = E::end(checker, at + 1, 16)?;
+    checker.whole(stop)
 }

@@ -1,13 +1,12 @@
 // The value of an expression, over its bytes.
-ghost use Rattle.std.specs.Prelude.{◌≡◌, ◌+◌, ◌-◌, ◌<◌, ◌≤◌, length, if◌then◌else◌};
+ghost use Rattle.std.specs.Prelude.{◌≡◌, ◌+◌, ◌-◌, ◌<◌, ◌≤◌, length};
 ghost use Rattle.expr.specs.Coded.{Coded};
 ghost use Rattle.expr.specs.Expr.{Expr, guard, term, joined, tested, summed, eval};
 ghost use Rattle.expr.specs.Placed.{Standing, Spans};
 ghost use Rattle.expr.specs.Values.{value_of, Within, Small};
 
 use crate::checked::{Guard, Term};
-use crate::code::{GuardCode, Joint, Order, Sign, TermCode};
-use crate::{guard_code, literal, term_code};
+use crate::code::{GuardCode, Joint, Order, Sign, TermCode, literal};
 
 fn join(joint: Joint, a: bool, b: bool) -> bool
     ensures { result ≡ joined joint a b }
@@ -39,23 +38,12 @@ fn sum(sign: Sign, a: i32, b: i32) -> i32
     }
 }
 
-fn choose(test: bool, a: i32, b: i32) -> i32
-    ensures { result ≡ (if test then a else b) }
-{
-    if test { a } else { b }
-}
-
 // The value of a variable, which is 0 past the end of `values`.
 fn variable(values: &[i16], v: u8) -> i32
     ensures value { result ≡ value_of values.now v }
     ensures bound { Within 2 result }
 {
-    let v = v as usize;
-    if v < values.len() {
-        values[v] as i32
-    } else {
-        0
-    }
+    values.get(v as usize).map_or(0, |x| i32::from(*x))
 }
 
 // The value of the guard that stands at `at`, and where it ends.
@@ -65,7 +53,7 @@ fn guard_value(s: &[u8], at: usize, values: &[i16]) -> (bool, usize)
     requires standing { Standing guard s.now at }
     ensures { Spans guard s.now at result.1 (λ e. result.0 ≡ eval (value_of values.now) e) }
 {
-    match guard_code(s[at]) {
+    match GuardCode::at(s, at) {
         GuardCode::Truth(b) => (b, at + 1),
         GuardCode::Not => {
             let (a, end) = guard_value(s, at + 1, values);
@@ -81,7 +69,6 @@ fn guard_value(s: &[u8], at: usize, values: &[i16]) -> (bool, usize)
             let (b, end) = term_value(s, next, values);
             (test(order, a, b), end)
         }
-        GuardCode::Unknown => unreachable(),
     }
 }
 
@@ -93,7 +80,7 @@ fn term_value(s: &[u8], at: usize, values: &[i16]) -> (i32, usize)
     ensures spans { Spans term s.now at result.1 (λ e. result.0 ≡ eval (value_of values.now) e) }
     ensures bound { Within (result.1 - at) result.0 }
 {
-    match term_code(s[at]) {
+    match TermCode::at(s, at) {
         TermCode::Literal => (literal(s, at + 1) as i32, at + 3),
         TermCode::Variable => (variable(values, s[at + 1]), at + 2),
         TermCode::Sum(sign) => {
@@ -105,9 +92,8 @@ fn term_value(s: &[u8], at: usize, values: &[i16]) -> (i32, usize)
             let (g, first) = guard_value(s, at + 1, values);
             let (a, next) = term_value(s, first, values);
             let (b, end) = term_value(s, next, values);
-            (choose(g, a, b), end)
+            (if g { a } else { b }, end)
         }
-        TermCode::Unknown => unreachable(),
     }
 }
 

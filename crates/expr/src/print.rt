@@ -1,13 +1,10 @@
 // The text form of an expression, over its bytes.
 ghost use Rattle.std.specs.Prelude.{◌≡◌, ℕ, ◌≤◌, List, ◌++◌, length, codes, decimal, fold};
-ghost use Rattle.expr.specs.Coded.{Coded};
-ghost use Rattle.expr.specs.Expr.{Expr, guard, term};
+ghost use Rattle.expr.specs.Expr.{guard, term};
 ghost use Rattle.expr.specs.Placed.{Standing, Spans};
-ghost use Rattle.expr.specs.Text.{truth_text, joint_text, order_text, sign_text, text_of};
+ghost use Rattle.expr.specs.Text.{truth_text, text_of};
 
-use crate::checked::{Guard, Term};
-use crate::code::{GuardCode, Joint, Order, Sign, TermCode};
-use crate::{guard_code, literal, term_code};
+use crate::code::{GuardCode, TermCode, literal};
 use sinks::{Sink, put_number, put_text, put_value};
 
 pub trait Names {
@@ -31,55 +28,23 @@ impl Names for Numbered {
     }
 }
 
-fn put_truth<S: Sink>(s: &mut S, b: bool)
-    ensures { s.new ≡ fold S.Sink.step s.old (truth_text b) }
+fn truth_text(b: bool) -> &'static [u8]
+    ensures { result.now ≡ truth_text b }
 {
-    if b {
-        put_text(s, b"TRUE")
-    } else {
-        put_text(s, b"FALSE")
-    }
+    if b { b"TRUE" } else { b"FALSE" }
 }
 
-fn put_joint<S: Sink>(s: &mut S, joint: Joint)
-    ensures { s.new ≡ fold S.Sink.step s.old (joint_text joint) }
-{
-    match joint {
-        Joint::And => put_text(s, b" & "),
-        Joint::Or => put_text(s, b" | "),
-    }
-}
-
-pub fn put_order<S: Sink>(s: &mut S, order: Order)
-    ensures { s.new ≡ fold S.Sink.step s.old (order_text order) }
-{
-    match order {
-        Order::Eq => put_text(s, b" = "),
-        Order::Ne => put_text(s, b" != "),
-        Order::Lt => put_text(s, b" < "),
-        Order::Le => put_text(s, b" <= "),
-    }
-}
-
-fn put_sign<S: Sink>(s: &mut S, sign: Sign)
-    ensures { s.new ≡ fold S.Sink.step s.old (sign_text sign) }
-{
-    match sign {
-        Sign::Plus => put_text(s, b" + "),
-        Sign::Minus => put_text(s, b" - "),
-    }
-}
-
+// `at` moves with each call, so a struct for the code and the place would have its facts proved as often.
 // Prints the guard that stands at `at`, and answers where it ends.
 #[cycle(put_guard_put_term)]
-fn put_guard<S: Sink, N: Names>(s: &mut S, names: &N, code: &[u8], at: usize) -> usize
+pub(crate) fn put_guard<S: Sink, N: Names>(s: &mut S, names: &N, code: &[u8], at: usize) -> usize
     requires long { length code.now ≤ 255 }
     requires standing { Standing guard code.now at }
     ensures { Spans guard code.now at result (λ e. s.new ≡ fold S.Sink.step s.old (text_of (N.Names.name names.now) e)) }
 {
-    match guard_code(code[at]) {
+    match GuardCode::at(code, at) {
         GuardCode::Truth(b) => {
-            put_truth(s, b);
+            put_text(s, truth_text(b));
             at + 1
         }
         GuardCode::Not => {
@@ -91,7 +56,7 @@ fn put_guard<S: Sink, N: Names>(s: &mut S, names: &N, code: &[u8], at: usize) ->
         GuardCode::Join(joint) => {
             put_text(s, b"(");
             let next = put_guard(s, names, code, at + 1);
-            put_joint(s, joint);
+            put_text(s, joint.text());
             let end = put_guard(s, names, code, next);
             put_text(s, b")");
             end
@@ -99,23 +64,22 @@ fn put_guard<S: Sink, N: Names>(s: &mut S, names: &N, code: &[u8], at: usize) ->
         GuardCode::Test(order) => {
             put_text(s, b"(");
             let next = put_term(s, names, code, at + 1);
-            put_order(s, order);
+            put_text(s, order.text());
             let end = put_term(s, names, code, next);
             put_text(s, b")");
             end
         }
-        GuardCode::Unknown => unreachable(),
     }
 }
 
 // Prints the term that stands at `at`, and answers where it ends.
 #[cycle(put_guard_put_term)]
-fn put_term<S: Sink, N: Names>(s: &mut S, names: &N, code: &[u8], at: usize) -> usize
+pub(crate) fn put_term<S: Sink, N: Names>(s: &mut S, names: &N, code: &[u8], at: usize) -> usize
     requires long { length code.now ≤ 255 }
     requires standing { Standing term code.now at }
     ensures { Spans term code.now at result (λ e. s.new ≡ fold S.Sink.step s.old (text_of (N.Names.name names.now) e)) }
 {
-    match term_code(code[at]) {
+    match TermCode::at(code, at) {
         TermCode::Literal => {
             put_value(s, literal(code, at + 1));
             at + 3
@@ -127,7 +91,7 @@ fn put_term<S: Sink, N: Names>(s: &mut S, names: &N, code: &[u8], at: usize) -> 
         TermCode::Sum(sign) => {
             put_text(s, b"(");
             let next = put_term(s, names, code, at + 1);
-            put_sign(s, sign);
+            put_text(s, sign.text());
             let end = put_term(s, names, code, next);
             put_text(s, b")");
             end
@@ -142,22 +106,5 @@ fn put_term<S: Sink, N: Names>(s: &mut S, names: &N, code: &[u8], at: usize) -> 
             put_text(s, b"; esac)");
             end
         }
-        TermCode::Unknown => unreachable(),
-    }
-}
-
-impl Guard<'_> {
-    pub fn put<S: Sink, N: Names>(&self, s: &mut S, names: &N)
-        ensures { (e : Expr guard) → Coded self.now.code.now e → s.new ≡ fold S.Sink.step s.old (text_of (N.Names.name names.now) e) }
-    {
-        put_guard(s, names, self.code, 0);
-    }
-}
-
-impl Term<'_> {
-    pub fn put<S: Sink, N: Names>(&self, s: &mut S, names: &N)
-        ensures { (e : Expr term) → Coded self.now.code.now e → s.new ≡ fold S.Sink.step s.old (text_of (N.Names.name names.now) e) }
-    {
-        put_term(s, names, self.code, 0);
     }
 }

@@ -1,7 +1,7 @@
 // Why a file is refused, and where.
 
 // The four sections of a system file, by number.
-#[derive(Clone, Copy)]
+#[derive(Clone, Copy, Debug, PartialEq, Eq)]
 pub enum Section {
     Events = 1,
     Variables = 2,
@@ -10,14 +10,14 @@ pub enum Section {
 }
 
 // Where a byte is read: its section, and its row from 1, or 0 for the section's count.
-#[derive(Clone, Copy)]
+#[derive(Clone, Copy, Debug, PartialEq, Eq)]
 pub struct Origin {
     pub section: Section,
     pub row: u16,
 }
 
 // Where a rule is broken: section, row and byte, which counts from 0 over the whole file.
-#[derive(Clone, Copy)]
+#[derive(Clone, Copy, Debug, PartialEq, Eq)]
 pub struct Place {
     pub section: Section,
     pub row: u16,
@@ -25,7 +25,7 @@ pub struct Place {
 }
 
 // A rule that a byte of the file breaks, by number.
-#[derive(Clone, Copy)]
+#[derive(Clone, Copy, Debug, PartialEq, Eq)]
 pub enum FileRule {
     CountLimits = 3,
     ZeroOrOne = 4,
@@ -37,7 +37,7 @@ pub enum FileRule {
 }
 
 // What is wrong with a file: it ends too soon (1), bytes follow its last row (2), or a byte breaks a rule.
-#[derive(Clone, Copy)]
+#[derive(Clone, Copy, Debug, PartialEq, Eq)]
 pub enum FileFault {
     EndsTooSoon,
     BytesFollow,
@@ -46,7 +46,7 @@ pub enum FileFault {
 
 // A refusal. That of a file carries what is wrong and the place; that of a buffer which is
 // shorter than the text (10) carries the length needed.
-#[derive(Clone, Copy)]
+#[derive(Clone, Copy, Debug, PartialEq, Eq)]
 pub enum Fault {
     File(FileFault, Place),
     Buffer(usize),

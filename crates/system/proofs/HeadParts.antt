@@ -1,7 +1,7 @@
 -- The parts of an automaton's row, from where it begins.
-use Rattle.std.proofs.Common.{◌≡◌, ℕ, zero, suc, ◌+◌, ◌-◌, ◌<◌, ◌≤◌, Bool, true, false, eqb, List, [], ◌∷◌, length, get_or, take, drop, refl, ap, subst, arith}
-use Rattle.std.specs.List.{flat_map}
-use Rattle.std.proofs.lemmas.Bool.{eq-eqb, ne_eqb, or_right, or_from}
+use Rattle.std.proofs.Common.{◌≡◌, ℕ, suc, ◌+◌, ◌-◌, ◌≤◌, Bool, eqb, ◌||◌, List, [], ◌∷◌, length, get_or, take, drop, refl, ap, ◌∙◌, subst, arith}
+use Rattle.std.specs.List.{flat_map, list_any}
+use Rattle.std.proofs.lemmas.Bool.Decides.{nat_tests}
 use Rattle.scan.specs.Stands.{Stands}
 use Rattle.scan.proofs.Standing.{stands_head, stands_split, stands_within, stands_part}
 use Rattle.system.specs.System.{Automaton}
@@ -59,12 +59,9 @@ alphabet_part s at A h =
     let p = head_parts s at A h in
     rw (p.locations, p.size) (stands_part s (at + 3 + length A.marks + 1) _ A.alphabet (let e : at + 3 + length A.marks + 1 + length A.alphabet - (at + 3 + length A.marks + 1) ≡ length A.alphabet = omega arith in e) p.alphabet)
 
--- a search that has come to a place
-pub found_in : (x : ℕ) (xs : List ℕ) (i : ℕ) → i < length xs → x ≡ get_or xs i 0 → is_in x xs ≡ true
-found_in x [] i h e = absurd (let z : ⊥ = omega arith in z)
-found_in x (y ∷ ys) zero h e = rw (eq-eqb x y e)
-found_in x (y ∷ ys) (suc i) h e = or_right (eqb x y) (is_in x ys) (found_in x ys i (omega arith) e)
-
-pub not_in : (x : ℕ) (xs : List ℕ) → ((i : ℕ) → i < length xs → x ≡ get_or xs i 0 → ⊥) → is_in x xs ≡ false
-not_in x [] h = refl
-not_in x (y ∷ ys) h = or_from (eqb x y) (is_in x ys) (ne_eqb x y (λ e. h 0 (omega arith) e)) (not_in x ys (λ i under e. h (suc i) (omega arith) e))
+-- whether a number is one of a list, as `contains` finds it
+pub contained : (x : ℕ) (xs : List ℕ) → list_any (λ y. eqb y x) xs ≡ is_in x xs
+contained x [] = refl
+contained x (y ∷ ys) =
+    let same : eqb y x ≡ eqb x y = grind (arith, nat_tests) in
+    ap (λ b. b || list_any (λ z. eqb z x) ys) same ∙ ap (λ b. eqb x y || b) (contained x ys)

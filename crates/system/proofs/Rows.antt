@@ -1,7 +1,8 @@
 -- What the scanner of the transitions says, from what it says of their parts.
-use Rattle.std.proofs.Common.{◌≡◌, ℕ, suc, ◌+◌, ◌<◌, ◌≤◌, List, [], map, length, get_or, Ok, Err, Result, sym, refl, ap, ◌∙◌, subst, arith}
+use Rattle.std.proofs.Common.{◌≡◌, ℕ, suc, ◌+◌, ◌-◌, ◌<◌, ◌≤◌, leb, List, [], ◌∷◌, ◌++◌, map, length, get_or, Ok, Err, Result, sym, refl, ap, ◌∙◌, subst, arith}
 use Rattle.std.proofs.lemmas.List.{map_push}
 use Rattle.std.proofs.lemmas.Bool.{le-leb, lt-leb}
+use Rattle.std.proofs.lemmas.Bool.Decides.{nat_tests}
 use Rattle.scan.specs.declared.refusal.Origin.{Origin}
 use Rattle.scan.specs.declared.refusal.Section.TheVariants.{Transitions}
 use Rattle.scan.specs.declared.refusal.Fault.{Fault}
@@ -16,7 +17,7 @@ use Rattle.expr.specs.Expr.{guard}
 use Rattle.expr.specs.Scan.{sized}
 use Rattle.expr.specs.Ends.{At}
 use Rattle.system.specs.System.{Automaton, Row, idle}
-use Rattle.system.specs.Scan.{origin, row_after, bound, owner, event_in, updates, transition, transition_row, few_rows, transitions}
+use Rattle.system.specs.Scan.{origin, row_after, bound, owner, rising, event_in, updates, transition, transition_row, few_rows, transitions}
 use Rattle.system.proofs.Sections.{same_row, bound-same}
 
 abbrev pub count_origin : Origin
@@ -83,9 +84,13 @@ module _ (o : Origin) (n m : ℕ) (A : Automaton) (locations : ℕ) (long : loca
       ∙ run-then _ _ s (at + 3) next w.value read)
       (ended (updates o m) (λ us. record { from = x; event = e; to = y; guard = w.value; updates = us }) s next r fifth)
 
--- as many automata as the code counts
-pub owner_of : (o : Origin) (floor : ℕ) (s : List ℕ) (at : ℕ) (count long : ℕ) → count ≡ long → {r : Result ℕ Fault} → Says (Next at) r (run (owner o count floor) s at) → Says (Next at) r (run (owner o long floor) s at)
-owner_of o floor s at count long e {r} says = subst (λ n. Says (Next at) r (run (owner o n floor) s at)) e says
+-- the number of an automaton by the least that it may be, where the code counts as many automata
+pub owner_of : (o : Origin) (above floor : ℕ) (s : List ℕ) (at : ℕ) (count long : ℕ) → count ≡ long → above - 1 ≡ floor → {r : Result ℕ Fault} → Says (Next at) r (run (rising o count floor) s at) → Says (Next at) r (run (owner o long above) s at)
+unfolding owner rising run
+owner_of o above floor s at count long e d {r} says =
+    let x = get_or s at 0 in
+    let same-test : leb above (suc x) ≡ leb floor x = grind (arith, nat_tests) in
+    says_by (Next at) _ r _ (rw (← e, same-test)) says
 
 -- rows one after another
 abbrev pub owners_of : List Row → List ℕ
@@ -96,7 +101,7 @@ module _ (n m : ℕ) (As : List Automaton) (s : List ℕ) (at : ℕ) where
   row_at before = transition_row (row_after Transitions before) n m As (bound (owners_of before))
 
   abbrev pub RowsGoing : ℕ → ℕ → ℕ → ℕ → Type 0
-  RowsGoing floor count k end = Going (λ before. bound (owners_of before) ≡ floor) row_at s (run (transitions n m As) s at) count k end
+  RowsGoing floor count k end = Going (λ before. bound (owners_of before) - 1 ≡ floor) row_at s (run (transitions n m As) s at) count k end
 
   split : run (transitions n m As) s at ≡ run (and_then row_count (λ k. collect k row_at [])) s at
   unfolding transitions
@@ -108,30 +113,33 @@ module _ (n m : ℕ) (As : List Automaton) (s : List ℕ) (at : ℕ) where
   pub rows_begin : (count : ℕ) → Says (Next (at + 1)) (Ok count) (run row_count s at) → RowsGoing 0 count 0 (at + 2)
   rows_begin count says =
       let e : at + 2 ≡ at + 1 + 1 = omega arith in
-      going_none row_at s (λ before. bound (owners_of before) ≡ 0) (run (transitions n m As) s at) count (at + 2)
+      going_none row_at s (λ before. bound (owners_of before) - 1 ≡ 0) (run (transitions n m As) s at) count (at + 2)
       (split ∙ then_read row_count (λ k. collect k row_at []) s at (Next (at + 1)) count count (at + 2) (λ x i h. (h.0, h.1 ∙ sym e)) says) refl
 
   -- the row that the code reads
-  module _ (floor count k end : ℕ) (o : Origin) (under : k < count) (is : o ≡ origin Transitions (suc k)) (g : RowsGoing floor count k end) where
-    here : row_at g.before ≡ transition_row o n m As floor
-    here = rw (← (same_row Transitions g.before k o g.count is), g.holds)
+  module _ (floor count k end : ℕ) (o : Origin) (under : k < count) (is : o ≡ origin Transitions (suc k)) (automata : ℕ) (long : automata ≡ length As) (g : RowsGoing floor count k end) where
+    here : row_at g.before ≡ transition_row o n m As (bound (owners_of g.before))
+    here = rw (← (same_row Transitions g.before k o g.count is))
 
-    pub owner_bad : (f : Fault) → Says (Next end) (Err f) (run (owner o (length As) floor) s end) → run (transitions n m As) s at ≡ bad f
+    pub owner_bad : (f : Fault) → Says (Next end) (Err f) (run (rising o automata floor) s end) → run (transitions n m As) s at ≡ bad f
     unfolding transition_row
-    owner_bad f says = going_bad row_at s _ _ count k end f under g (ap (λ p. run p s end) here ∙ byte_bad _ _ s end f says)
+    owner_bad f says =
+        going_bad row_at s _ _ count k end f under g (ap (λ p. run p s end) here ∙ byte_bad _ _ s end f (owner_of o _ floor s end automata _ long g.holds says))
 
-    pub row_bad : (j : ℕ) (f : Fault) → Says (Next end) (Ok j) (run (owner o (length As) floor) s end) → run (transition o n m (get_or As j idle)) s (end + 1) ≡ bad f → run (transitions n m As) s at ≡ bad f
+    pub row_bad : (j : ℕ) (f : Fault) → Says (Next end) (Ok j) (run (rising o automata floor) s end) → run (transition o n m (get_or As j idle)) s (end + 1) ≡ bad f → run (transitions n m As) s at ≡ bad f
     unfolding transition_row
     row_bad j f first bad' =
-        going_bad row_at s _ _ count k end f under g (ap (λ p. run p s end) here ∙ byte_read _ _ s end j first ∙ run-fails _ _ s (end + 1) f bad')
+        going_bad row_at s _ _ count k end f under g
+        (ap (λ p. run p s end) here ∙ byte_read _ _ s end j (owner_of o _ floor s end automata _ long g.holds first) ∙ run-fails _ _ s (end + 1) f bad')
 
-    pub row_read : (j stop : ℕ) → Says (Next end) (Ok j) (run (owner o (length As) floor) s end) → floor ≤ suc j → Says (λ x t e. x ≡ e) (Ok stop) (run (transition o n m (get_or As j idle)) s (end + 1)) → RowsGoing (j + 1) count (k + 1) stop
+    pub row_read : (j stop : ℕ) → Says (Next end) (Ok j) (run (rising o automata floor) s end) → floor ≤ j → Says (λ x t e. x ≡ e) (Ok stop) (run (transition o n m (get_or As j idle)) s (end + 1)) → RowsGoing j count (k + 1) stop
     unfolding transition_row
-    row_read j stop first above second =
+    row_read j stop first low second =
         let w = second.agree in
         let r : Row = record { owner = j; transition = w.value } in
         let read : run (transition o n m (get_or As j idle)) s (end + 1) ≡ good w.value stop = w.is ∙ ap (good w.value) (sym w.holds) in
-        let e : bound (owners_of g.before) ≡ floor = g.holds in
-        going_more row_at s _ (λ before. bound (owners_of before) ≡ j + 1) _ count k end stop under g r
-        (ap (λ p. run p s end) here ∙ byte_read _ _ s end j first ∙ run-then _ _ s (end + 1) stop w.value read ∙ run-done r s stop)
-        (ap bound (map_push (λ x. x.owner) g.before r) ∙ bound-same (owners_of g.before) j (omega arith))
+        let e : bound (owners_of g.before) - 1 ≡ floor = g.holds in
+        let next : bound (owners_of (g.before ++ r ∷ [])) ≡ j + 1 = ap bound (map_push (λ x. x.owner) g.before r) ∙ bound-same (owners_of g.before) j (omega arith) in
+        going_more row_at s _ (λ before. bound (owners_of before) - 1 ≡ j) _ count k end stop under g r
+        (ap (λ p. run p s end) here ∙ byte_read _ _ s end j (owner_of o _ floor s end automata _ long g.holds first) ∙ run-then _ _ s (end + 1) stop w.value read ∙ run-done r s stop)
+        (omega arith)

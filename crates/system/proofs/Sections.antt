@@ -1,5 +1,5 @@
 -- What the scanners of the sections say, from what they say of their parts.
-use Rattle.std.proofs.Common.{◌≡◌, ℕ, suc, ◌+◌, ◌*◌, ◌<◌, ◌≤◌, true, false, List, [], ◌∷◌, ◌++◌, length, get_or, ℤ, Ok, Err, Result, sym, ap, ◌∙◌, subst, arith, w16, to_z, of_z}
+use Rattle.std.proofs.Common.{◌≡◌, ℕ, suc, ◌+◌, ◌*◌, ◌<◌, ◌≤◌, true, false, List, [], ◌∷◌, ◌++◌, length, ℤ, Ok, Err, Result, sym, ap, ◌∙◌, subst, arith, w16, to_z, of_z}
 use Rattle.scan.specs.declared.refusal.Origin.{Origin}
 use Rattle.scan.specs.declared.refusal.Section.{Section}
 use Rattle.scan.specs.declared.refusal.Section.TheVariants.{Events, Variables}
@@ -9,7 +9,7 @@ use Rattle.scan.specs.declared.refusal.FileRule.TheVariants.{VariableValues}
 use Rattle.scan.specs.Faults.{fault_at}
 use Rattle.scan.specs.Scan.{Scan, and_then, Out, good, bad, run, counted, zero_or_one, pair, collect}
 use Rattle.scan.specs.Says.{Says, Next}
-use Rattle.scan.proofs.Runs.{run-done, run-refuse, run-then, run-fails, ask_goes, answers, says_by, byte_bad, byte_read, then_bad, then_read}
+use Rattle.scan.proofs.Runs.{run-done, run-refuse, run-then, run-fails, answers, says_by, byte_bad, byte_read, then_bad, then_read}
 use Rattle.scan.proofs.Loops.{Going, going_none, going_more, going_bad}
 use Rattle.system.specs.System.{EventKind, Variable}
 use Rattle.system.specs.Ranges.{ValueAt}
@@ -18,12 +18,17 @@ use Rattle.system.proofs.Eaches.{bound-append}
 use Rattle.system.specs.Scan.{origin, row_after, kind_of, event_row, events, value, in_order, ruled, variable_row, variables, mark, mark_of, rising, bound}
 
 -- a value of two bytes
-pub value_read : (o : Origin) (s : List ℕ) (at h l : ℕ) (v : ℤ) → (at < length s) × (h ≡ get_or s at 0) → (at + 1 < length s) × (l ≡ get_or s (at + 1) 0) → v ≡ to_z w16 (h * 256 + l) → Says (ValueAt at) (Ok v) (run (value o) s at)
-unfolding value pair
-value_read o s at h l v p q is =
-    answers (ValueAt at) _ v (to_z w16 (h * 256 + l)) (at + 1 + 1)
-    (run-then _ _ s at (at + 1 + 1) (h * 256 + l) (ask_goes o _ s at h p ∙ ask_goes o _ s (at + 1) l q ∙ run-done _ s (at + 1 + 1)) ∙ run-done _ s (at + 1 + 1))
-    (sym is, omega arith)
+module _ (o : Origin) (s : List ℕ) (at : ℕ) where
+  pub value_bad : (f : Fault) → Says (Next (at + 1)) (Err f) (run (pair o) s at) → run (value o) s at ≡ bad f
+  unfolding value
+  value_bad f says = then_bad (pair o) _ s at (Next (at + 1)) f says
+
+  pub value_read : (n : ℕ) (v : ℤ) → Says (Next (at + 1)) (Ok n) (run (pair o) s at) → v ≡ to_z w16 n → Says (ValueAt at) (Ok v) (run (value o) s at)
+  unfolding value
+  value_read n v says is =
+      answers (ValueAt at) _ v (to_z w16 n) (at + 1 + 1)
+      (then_read (pair o) _ s at (Next (at + 1)) n n (at + 1 + 1) (λ x e h. h) says ∙ run-done _ s (at + 1 + 1))
+      (sym is, omega arith)
 
 -- a value and what follows it
 module _ {B : Type 0} (o : Origin) (next : ℤ → Scan B) (s : List ℕ) (at : ℕ) where

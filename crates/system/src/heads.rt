@@ -4,34 +4,29 @@ ghost use Rattle.scan.specs.Stands.{Stands};
 ghost use Rattle.system.specs.System.{Automaton};
 ghost use Rattle.system.specs.Encode.{head_bytes};
 ghost use Rattle.system.specs.Heads.{HeadFits};
-ghost use Rattle.system.specs.Scan.{is_in};
 
-// How many locations there are.
-pub fn locations_of(file: &[u8], head: usize) -> u8
-    requires { HeadFits file.now head }
-    ensures { (A : Automaton) → Stands file.now head (head_bytes A) → result ≡ length A.marks }
-{
-    file[head + 1]
+// An automaton's row, which ends within its file.
+#[derive(Clone, Copy)]
+pub struct Head<'a> {
+    pub file: &'a [u8],
+    pub at: usize,
+    ghost fits: { HeadFits file.now at },
 }
 
-// The events of the alphabet.
-pub fn alphabet_of(file: &[u8], head: usize) -> &[u8]
-    requires { HeadFits file.now head }
-    ensures { (A : Automaton) → Stands file.now head (head_bytes A) → result.now ≡ A.alphabet }
-{
-    let at = head + 3 + file[head + 1] as usize;
-    let size = file[at] as usize;
-    &file[at + 1..at + 1 + size]
-}
-
-// Whether a number is one of a list.
-pub fn is_in(x: u8, xs: &[u8]) -> bool
-    ensures { result ≡ is_in x xs.now }
-{
-    for y in xs {
-        if x == *y {
-            return true;
-        }
+impl<'a> Head<'a> {
+    // How many locations there are.
+    pub fn locations(self) -> u8
+        ensures { (A : Automaton) → Stands self.entry.file.now self.entry.at (head_bytes A) → result ≡ length A.marks }
+    {
+        self.file[self.at + 1]
     }
-    false
+
+    // The events of the alphabet.
+    pub fn alphabet(self) -> &'a [u8]
+        ensures { (A : Automaton) → Stands self.entry.file.now self.entry.at (head_bytes A) → result.now ≡ A.alphabet }
+    {
+        let at = self.at + 3 + self.file[self.at + 1] as usize;
+        let size = self.file[at] as usize;
+        &self.file[at + 1..at + 1 + size]
+    }
 }

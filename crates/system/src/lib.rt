@@ -23,7 +23,7 @@ use events::check_events;
 pub use kinds::{EventKind, Role};
 pub use layout::Layout;
 pub use range::Range;
-use scan::{Fault, FileFault, Origin, Section, fault_at};
+use scan::{Fault, FileFault, Origin, Section, Source};
 use transitions::check_rows;
 use variables::check_variables;
 
@@ -42,7 +42,8 @@ pub fn check(file: &[u8]) -> Result<Layout, Fault>
             section: Section::Transitions,
             row: rows.count,
         };
-        return Err(fault_at(FileFault::BytesFollow, origin, rows.end));
+        let source = Source { file, origin };
+        return Err(source.fault(FileFault::BytesFollow, rows.end));
     }
     Ok(Layout {
         events,

@@ -1,82 +1,71 @@
 // Section 4: the transitions.
-ghost use Rattle.std.specs.Prelude.{◌≡◌, suc, ◌+◌, ◌<◌, ◌≤◌, List, length, IfOk};
+ghost use Rattle.std.specs.Prelude.{◌≡◌, ◌+◌, ◌<◌, ◌≤◌, List, length, IfOk};
 ghost use Rattle.scan.specs.Scan.{run, and_then, pair};
 ghost use Rattle.scan.specs.Says.{Says, Next};
 ghost use Rattle.scan.specs.Stands.{Stands};
 ghost use Rattle.system.specs.System.{Automaton};
 ghost use Rattle.system.specs.Encode.{head_bytes};
-ghost use Rattle.system.specs.Heads.{HeadFits, HeadsAt};
+ghost use Rattle.system.specs.Heads.{HeadsAt};
 ghost use Rattle.system.specs.Found.{HeadsKnown, RowsFound};
-ghost use Rattle.system.specs.Scan.{updates as update_scan, owner as owner_scan, event_in, transition, origin, few_rows, transitions as transition_section};
+ghost use Rattle.system.specs.Scan.{updates as update_scan, event_in, transition, origin, few_rows, transitions as transition_section};
 
 use crate::automata::{Heads, check_rising};
-use crate::heads::{alphabet_of, is_in, locations_of};
+use crate::heads::Head;
 use crate::origin::{count_of, row_after};
-use expr::{guard_at, term_at};
-use scan::{Fault, FileRule, Origin, Section, broken, count, number, two_bytes};
+use expr::{Guard, Term, end_at};
+use scan::{Fault, FileRule, Section, Source};
 
-// The updates of a row: where they end.
-fn check_updates(file: &[u8], at: usize, origin: Origin, variables: u8) -> Result<usize, Fault>
-    ensures says { Says (λ stop us end. stop ≡ end) result (run (update_scan origin variables) file.now at) }
-    ensures within { IfOk result (λ stop. stop ≤ length file.now) }
-{
-    let updates = count(file, at, origin, 0, 12)?;
-    let mut floor = 0;
-    let mut end = at + 1;
-    for _ in 0..updates {
-        let v = check_rising(file, end, origin, variables, floor)?;
-        floor = v as u16 + 1;
-        end = term_at(file, end + 1, origin, variables)?;
-    }
-    Ok(end)
-}
-
-// The number of an automaton, which does not fall from row to row.
-fn check_owner(file: &[u8], at: usize, origin: Origin, n: u8, floor: u16) -> Result<u8, Fault>
-    ensures says { Says (Next at) result (run (owner_scan origin n floor) file.now at) }
-    ensures within { IfOk result (λ k. (at < length file.now) × (k < n) × (floor ≤ suc k)) }
-{
-    let k = number(file, at, origin, n)?;
-    if floor <= k as u16 + 1 {
-        Ok(k)
-    } else {
-        Err(broken(FileRule::RisingOrder, origin, at))
-    }
-}
-
-// An event of the alphabet of the automaton whose row begins at `head`.
-fn check_event(file: &[u8], at: usize, origin: Origin, events: u8, head: usize) -> Result<u8, Fault>
-    requires { HeadFits file.now head }
-    ensures says { (A : Automaton) → Stands file.now head (head_bytes A) → Says (Next at) result (run (event_in origin events A.alphabet) file.now at) }
-    ensures within { IfOk result (λ e. at < length file.now) }
-{
-    let e = number(file, at, origin, events)?;
-    if is_in(e, alphabet_of(file, head)) {
-        Ok(e)
-    } else {
-        Err(broken(FileRule::InAlphabet, origin, at))
-    }
-}
-
-// A row after its automaton's number: where it ends.
-fn check_transition(
-    file: &[u8],
-    at: usize,
-    origin: Origin,
+// A transition's row: where it is read, the automaton that it is of, and the numbers of events and variables.
+#[derive(Clone, Copy)]
+struct Row<'a> {
+    source: Source<'a>,
+    head: Head<'a>,
     events: u8,
     variables: u8,
-    head: usize,
-) -> Result<usize, Fault>
-    requires { HeadFits file.now head }
-    ensures says { (A : Automaton) → Stands file.now head (head_bytes A) → Says (λ stop t end. stop ≡ end) result (run (transition origin events variables A) file.now at) }
-    ensures within { IfOk result (λ stop. stop ≤ length file.now) }
-{
-    let locations = locations_of(file, head);
-    number(file, at, origin, locations)?;
-    check_event(file, at + 1, origin, events, head)?;
-    number(file, at + 2, origin, locations)?;
-    let next = guard_at(file, at + 3, origin, variables)?;
-    check_updates(file, next, origin, variables)
+}
+
+impl Row<'_> {
+    // An event of the automaton's alphabet.
+    fn check_event(self, at: usize) -> Result<u8, Fault>
+        ensures says { (A : Automaton) → Stands self.entry.head.file.now self.entry.head.at (head_bytes A) → Says (Next at) result (run (event_in self.entry.source.origin self.entry.events A.alphabet) self.entry.source.file.now at) }
+        ensures within { IfOk result (λ e. at < length self.entry.source.file.now) }
+    {
+        let e = self.source.number(at, self.events)?;
+        if self.head.alphabet().contains(&e) {
+            Ok(e)
+        } else {
+            Err(self.source.broken(FileRule::InAlphabet, at))
+        }
+    }
+
+    // The updates: where they end.
+    fn check_updates(self, at: usize) -> Result<usize, Fault>
+        ensures says { Says (λ stop us end. stop ≡ end) result (run (update_scan self.entry.source.origin self.entry.variables) self.entry.source.file.now at) }
+        ensures within { IfOk result (λ stop. stop ≤ length self.entry.source.file.now) }
+    {
+        let updates = self.source.count(at, 0, 12)?;
+        let mut floor = 0;
+        let mut end = at + 1;
+        for _ in 0..updates {
+            let v = check_rising(self.source, end, self.variables, floor)?;
+            floor = v as u16 + 1;
+            end = end_at::<Term>(self.source, end + 1, self.variables)?;
+        }
+        Ok(end)
+    }
+
+    // The row after its automaton's number: where it ends.
+    fn check(self, at: usize) -> Result<usize, Fault>
+        ensures says { (A : Automaton) → Stands self.entry.head.file.now self.entry.head.at (head_bytes A) → Says (λ stop t end. stop ≡ end) result (run (transition self.entry.source.origin self.entry.events self.entry.variables A) self.entry.source.file.now at) }
+        ensures within { IfOk result (λ stop. stop ≤ length self.entry.source.file.now) }
+    {
+        let locations = self.head.locations();
+        self.source.number(at, locations)?;
+        self.check_event(at + 1)?;
+        self.source.number(at + 2, locations)?;
+        let next = end_at::<Guard>(self.source, at + 3, self.variables)?;
+        self.check_updates(next)
+    }
 }
 
 // How many rows there are, at most 512.
@@ -85,11 +74,12 @@ fn check_count(file: &[u8], at: usize) -> Result<u16, Fault>
     ensures within { IfOk result (λ n. (n ≤ 512) × (at + 2 ≤ length file.now)) }
 {
     let origin = count_of(Section::Transitions);
-    let rows = two_bytes(file, at, origin)?;
+    let source = Source { file, origin };
+    let rows = source.two_bytes(at)?;
     if rows <= 512 {
         Ok(rows)
     } else {
-        Err(broken(FileRule::CountLimits, origin, at + 1))
+        Err(source.broken(FileRule::CountLimits, at + 1))
     }
 }
 
@@ -101,7 +91,7 @@ pub struct Rows {
     pub end: usize,
 }
 
-// The transitions' rows.
+// The transitions' rows, whose automata's numbers do not fall.
 pub fn check_rows(file: &[u8], events: u8, variables: u8, heads: &Heads) -> Result<Rows, Fault>
     requires { HeadsKnown file.now heads.now }
     ensures says { (As : List Automaton) → length As ≡ heads.now.count → HeadsAt file.now heads.now.rows As → Says (RowsFound heads.now.end) result (run (transition_section events variables As) file.now heads.now.end) }
@@ -113,10 +103,17 @@ pub fn check_rows(file: &[u8], events: u8, variables: u8, heads: &Heads) -> Resu
     let mut end = begin;
     for k in 0..count {
         let origin = row_after(Section::Transitions, k);
-        let owner = check_owner(file, end, origin, heads.count, floor)?;
-        floor = owner as u16 + 1;
-        let head = heads.rows[owner as usize];
-        end = check_transition(file, end + 1, origin, events, variables, head)?;
+        let source = Source { file, origin };
+        let owner = check_rising(source, end, heads.count, floor)?;
+        floor = owner as u16;
+        let at = heads.rows[owner as usize];
+        let row = Row {
+            source,
+            head: Head { file, at },
+            events,
+            variables,
+        };
+        end = row.check(end + 1)?;
     }
     Ok(Rows { count, begin, end })
 }

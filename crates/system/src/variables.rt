@@ -7,16 +7,14 @@ ghost use Rattle.system.specs.Ranges.{variable_of, ValueAt, VariablesAt};
 
 use crate::Range;
 use crate::origin::{count_of, row_after};
-use scan::{Fault, FileRule, Origin, Section, broken, byte_at, count};
+use scan::{Fault, FileRule, Section, Source};
 
 // A value of two bytes.
-fn check_value(file: &[u8], at: usize, origin: Origin) -> Result<i16, Fault>
-    ensures says { Says (ValueAt at) result (run (value_scan origin) file.now at) }
-    ensures within { IfOk result (λ v. at + 2 ≤ length file.now) }
+fn check_value(source: Source, at: usize) -> Result<i16, Fault>
+    ensures says { Says (ValueAt at) result (run (value_scan source.entry.origin) source.entry.file.now at) }
+    ensures within { IfOk result (λ v. at + 2 ≤ length source.entry.file.now) }
 {
-    let high = byte_at(file, at, origin)?;
-    let low = byte_at(file, at + 1, origin)?;
-    Ok(i16::from_be_bytes([high, low]))
+    Ok(source.two_bytes(at)?.cast_signed())
 }
 
 // Whether `a`, `b` and `c` do not fall, and `c` is not above `d`.
@@ -29,7 +27,7 @@ fn ordered(a: i16, b: i16, c: i16, d: i16) -> bool
 fn between(low: i16, x: i16, high: i16) -> bool
     ensures { result ≡ (int_le low x && int_le x high) }
 {
-    low <= x && x <= high
+    (low..=high).contains(&x)
 }
 
 // Whether the values keep their rule.
@@ -46,15 +44,15 @@ fn in_order(r: Range) -> bool
 }
 
 // A variable's row of ten bytes.
-fn check_variable(file: &[u8], at: usize, origin: Origin) -> Result<(), Fault>
-    ensures says { Says (λ _ v end. end ≡ at + 10) result (run (variable_row origin) file.now at) }
-    ensures within { OnOk result (at + 10 ≤ length file.now) }
+fn check_variable(source: Source, at: usize) -> Result<(), Fault>
+    ensures says { Says (λ _ v end. end ≡ at + 10) result (run (variable_row source.entry.origin) source.entry.file.now at) }
+    ensures within { OnOk result (at + 10 ≤ length source.entry.file.now) }
 {
-    let low = check_value(file, at, origin)?;
-    let high = check_value(file, at + 2, origin)?;
-    let start = check_value(file, at + 4, origin)?;
-    let marked_low = check_value(file, at + 6, origin)?;
-    let marked_high = check_value(file, at + 8, origin)?;
+    let low = check_value(source, at)?;
+    let high = check_value(source, at + 2)?;
+    let start = check_value(source, at + 4)?;
+    let marked_low = check_value(source, at + 6)?;
+    let marked_high = check_value(source, at + 8)?;
     let range = Range {
         low,
         high,
@@ -65,7 +63,7 @@ fn check_variable(file: &[u8], at: usize, origin: Origin) -> Result<(), Fault>
     if in_order(range) {
         Ok(())
     } else {
-        Err(broken(FileRule::VariableValues, origin, at + 9))
+        Err(source.broken(FileRule::VariableValues, at + 9))
     }
 }
 
@@ -75,10 +73,11 @@ pub fn check_variables(file: &[u8], at: usize) -> Result<u8, Fault>
     ensures says { Says (VariablesAt at) result (run variable_section file.now at) }
     ensures within { IfOk result (λ n. (n ≤ 12) × (at + 1 + 10 * n ≤ length file.now)) }
 {
-    let variables = count(file, at, count_of(Section::Variables), 0, 12)?;
+    let origin = count_of(Section::Variables);
+    let variables = Source { file, origin }.count(at, 0, 12)?;
     for k in 0..variables {
-        let row = row_after(Section::Variables, k as u16);
-        check_variable(file, at + 1 + 10 * k as usize, row)?;
+        let origin = row_after(Section::Variables, k as u16);
+        check_variable(Source { file, origin }, at + 1 + 10 * k as usize)?;
     }
     Ok(variables)
 }

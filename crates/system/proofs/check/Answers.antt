@@ -36,7 +36,7 @@ check_rows-requires c = rows_ready _ _ c.in_ok-events.ensures.says _ c.in_ok-var
 
 pub returns-then-rows-file : goal.returns-then-rows-file
 returns-then-rows-file c =
-    let is = bytes_follow _ _ c.in_ok-events.ensures.says _ c.in_ok-variables.ensures.says _ c.in_ok-heads.ensures.within.0 c.in_ok-heads.ensures.says (λ i. (c.type_inv.file i).fits) _ c.in_ok-rows.ensures.says c.if-rows-file.true ∙ ap bad (sym c.fault_at.ensures) in
+    let is = bytes_follow _ _ c.in_ok-events.ensures.says _ c.in_ok-variables.ensures.says _ c.in_ok-heads.ensures.within.0 c.in_ok-heads.ensures.says (λ i. (c.type_inv.file i).fits) _ c.in_ok-rows.ensures.says c.if-rows-file.true ∙ ap bad (sym c.fault.ensures) in
     record { exact = record { agree = is }; means = refusal_holds _ (λ i. (c.type_inv.file i).fits) _ is }
 
 pub returns : goal.returns

@@ -1,7 +1,7 @@
-use Rattle.std.proofs.Common.{cond, not, refl, ap, ◌∙◌, ap₂, arith}
+use Rattle.std.proofs.Common.{not, refl, sym, ap, ◌∙◌, ap₂, arith}
 use Rattle.expr.specs.Expr.{joined, tested, summed}
-use Rattle.expr.proofs.Places.{join_two, test_two, sum_two, two_first, two_second, two_spans, not_first, not_spans, truth_spans, literal_within, literal_spans, variable_within, variable_spans, case_first, case_second, case_third, case_spans, no_guard, no_term}
-use Rattle.expr.proofs.Evals.{within-sum, within_more, within-either, same, term_done, literal_done, chosen}
+use Rattle.expr.proofs.Places.{join_two, test_two, sum_two, two_first, two_second, two_spans, not_first, not_spans, truth_spans, literal_within, literal_spans, variable_within, variable_spans, case_first, case_second, case_third, case_spans}
+use Rattle.expr.proofs.Evals.{within-sum, within_more, same, term_done, literal_done}
 use Rattle.expr.proofs.eval.+guard_value_term_value.Goals as goal
 
 pub guard_value-guard_value-a-requires : goal.guard_value-guard_value-a-requires
@@ -22,9 +22,6 @@ guard_value-term_value-a-requires t c =
 pub guard_value-term_value-b-requires : goal.guard_value-term_value-b-requires
 guard_value-term_value-b-requires t c =
     (omega arith, (c.requires.long, two_second _ _ _ (test_two _ _ _ c.in-Test.ensures) _ _ c.term_value-a.ensures.spans c.requires.standing))
-
-pub guard_value-unreachable-requires : goal.guard_value-unreachable-requires
-guard_value-unreachable-requires t c = no_guard _ _ c.in-Unknown.ensures c.requires.standing
 
 pub guard_value-returns-in-Truth : goal.guard_value-returns-in-Truth
 guard_value-returns-in-Truth t c = truth_spans _ _ _ _ c.in-Truth.ensures c.requires.standing refl
@@ -49,8 +46,8 @@ guard_value-returns-in-Test t c =
 pub term_value-literal-requires : goal.term_value-literal-requires
 term_value-literal-requires t c = omega (arith, literal_within _ _ c.in-Literal.ensures c.requires.standing)
 
-pub term_value-bounds-s-at-in-Variable : goal.term_value-bounds-s-at-in-Variable
-term_value-bounds-s-at-in-Variable t c = variable_within _ _ c.in-Variable.ensures c.requires.standing
+pub term_value-bounds-s-at : goal.term_value-bounds-s-at
+term_value-bounds-s-at t c = variable_within _ _ c.in-Variable.ensures c.requires.standing
 
 pub term_value-term_value-a-requires : goal.term_value-term_value-a-requires
 term_value-term_value-a-requires t c =
@@ -70,9 +67,6 @@ term_value-term_value-a-requires-in-Case t c =
 pub term_value-term_value-b-requires-in-Case : goal.term_value-term_value-b-requires-in-Case
 term_value-term_value-b-requires-in-Case t c =
     (omega arith, (c.requires.long, case_third _ _ c.in-Case.ensures _ _ c.guard_value-g.ensures _ _ c.term_value-a-in-Case.ensures.spans c.requires.standing))
-
-pub term_value-unreachable-requires : goal.term_value-unreachable-requires
-term_value-unreachable-requires t c = no_term _ _ c.in-Unknown.ensures c.requires.standing
 
 pub term_value-returns-in-Literal : goal.term_value-returns-in-Literal
 term_value-returns-in-Literal t c =
@@ -96,14 +90,16 @@ term_value-returns-in-Sum t c =
     (two_spans _ _ _ (sum_two _ _ _ c.in-Sum.ensures) _ _ one.spans _ _ _ two.spans (λ x y p q. is ∙ ap₂ (summed c.in-Sum.sign) p q))
     (rw is (within-sum _ _ _ _ _ _ one.bound two.bound (omega (arith, one.spans.past, two.spans.past))))
 
-pub term_value-returns-in-Case : goal.term_value-returns-in-Case
-term_value-returns-in-Case t c =
-    let if = c.guard_value-g.ensures in
+pub term_value-returns-then-g-clause-spans : goal.term_value-returns-then-g-clause-spans
+term_value-returns-then-g-clause-spans t c =
     let one = c.term_value-a-in-Case.ensures in
-    let two = c.term_value-b-in-Case.ensures in
     let a = same _ _ (omega (arith, one.spans.within)) one.bound in
+    case_spans _ _ c.in-Case.ensures _ _ c.guard_value-g.ensures _ _ one.spans _ _ _ c.term_value-b-in-Case.ensures.spans
+    (λ g x y o p q. rw (sym o ∙ c.if-g.true) (a ∙ p))
+
+pub term_value-returns-else-g-clause-spans : goal.term_value-returns-else-g-clause-spans
+term_value-returns-else-g-clause-spans t c =
+    let two = c.term_value-b-in-Case.ensures in
     let b = same _ _ (omega (arith, two.spans.within)) two.bound in
-    let is = c.choose.ensures ∙ ap₂ (cond c.guard_value-g.result.0) a b in
-    term_done _ _ c.requires.long _ _ _
-    (case_spans _ _ c.in-Case.ensures _ _ if _ _ one.spans _ _ _ two.spans (λ g x y o p q. is ∙ chosen _ _ _ _ _ _ o p q))
-    (rw is (within-either _ _ _ _ _ _ one.bound two.bound (omega (arith, if.past, two.spans.past)) (omega (arith, if.past, one.spans.past))))
+    case_spans _ _ c.in-Case.ensures _ _ c.guard_value-g.ensures _ _ c.term_value-a-in-Case.ensures.spans _ _ _ two.spans
+    (λ g x y o p q. rw (sym o ∙ c.if-g.false) (b ∙ q))

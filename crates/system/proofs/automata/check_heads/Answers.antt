@@ -8,18 +8,18 @@ use Rattle.system.proofs.automata.check_heads.Goals as goal
 pub returns-in_err-count : goal.returns-in_err-count
 returns-in_err-count c =
     let p = err_from_is_err_and c.from_residual.result c.from_residual.ensures.1 in
-    rw (p.1, p.2) (record { says = record { agree = heads_bad _ _ _ _ _ c.count_of.ensures c.in_err-count.ensures.says }; within = tt })
+    rw (p.1, p.2) (record { says = record { agree = heads_bad _ _ _ _ _ c.count_of-origin.ensures c.in_err-count.ensures.says }; within = tt })
 
 pub loop-k-init : goal.loop-k-init
 loop-k-init c =
     let h = c.in_ok-count.ensures.within in
-    (heads_begin _ _ _ _ _ _ c.count_of.ensures c.in_ok-count.ensures.says, omega arith, h.2, refl)
+    (heads_begin _ _ _ _ _ _ c.count_of-origin.ensures c.in_ok-count.ensures.says, omega arith, h.2, refl)
 
 pub returns-in_err-end : goal.returns-in_err-end
 returns-in_err-end c =
     let p = err_from_is_err_and c.from_residual-in_err-end.result c.from_residual-in_err-end.ensures.1 in
     rw (p.1, p.2) (record {
-      says = record { agree = head_bad _ _ _ _ _ _ _ _ _ c.loop-k-test.true c.row_after.ensures c.loop-k.invariant.0 c.in_err-end.ensures.says.agree };
+      says = record { agree = head_bad _ _ _ _ _ _ _ _ _ c.loop-k-test.true c.row_after-origin.ensures c.loop-k.invariant.0 c.in_err-end.ensures.says.agree };
       within = tt;
     })
 
@@ -28,7 +28,7 @@ loop-k-preserved c =
     let h = c.in_ok-end.ensures in
     let v = c.loop-k.invariant in
     let room : c.loop-k.k < length c.loop-k.rows = omega (arith, v.2, v.3, c.loop-k-test.true) in
-    (head_read _ _ _ (λ i. (c.type_inv.file i).fits) _ _ _ _ _ _ c.loop-k-test.true room c.row_after.ensures v.0 h.says, h.within, v.2, length-set _ _ _ ∙ v.3)
+    (head_read _ _ _ (λ i. (c.type_inv.file i).fits) _ _ _ _ _ _ c.loop-k-test.true room c.row_after-origin.ensures v.0 h.says, h.within, v.2, length-set _ _ _ ∙ v.3)
 
 pub returns : goal.returns
 returns c =

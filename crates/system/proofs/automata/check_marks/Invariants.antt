@@ -6,5 +6,5 @@ use Rattle.system.proofs.automata.check_marks.Given as goal
 
 abbrev pub invariant-loop-k : goal.invariant-loop-k
 invariant-loop-k l =
-    Going (λ _. Unit {0}) (λ _. mark l.origin) l.file (run (collect l.locations (λ _. mark l.origin) []) l.file l.at) l.locations l.k (l.at + l.k)
-    × (l.at + l.k ≤ length l.file)
+    Going (λ _. Unit {0}) (λ _. mark l.source.origin) l.source.file.now (run (collect l.locations (λ _. mark l.source.origin) []) l.source.file.now l.at) l.locations l.k (l.at + l.k)
+    × (l.at + l.k ≤ length l.source.file.now)

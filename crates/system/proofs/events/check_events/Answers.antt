@@ -8,25 +8,25 @@ use Rattle.system.proofs.events.check_events.Goals as goal
 pub returns-in_err-events : goal.returns-in_err-events
 returns-in_err-events c =
     let p = err_from_is_err_and c.from_residual.result c.from_residual.ensures.1 in
-    rw (p.1, p.2) (record { says = record { agree = events_bad _ _ _ c.count_of.ensures c.in_err-events.ensures.says }; within = tt })
+    rw (p.1, p.2) (record { says = record { agree = events_bad _ _ _ c.count_of-origin.ensures c.in_err-events.ensures.says }; within = tt })
 
 pub loop-k-init : goal.loop-k-init
 loop-k-init c =
     let h = c.in_ok-events.ensures.within in
-    (events_begin _ _ _ c.count_of.ensures c.in_ok-events.ensures.says, omega arith, h.2)
+    (events_begin _ _ _ c.count_of-origin.ensures c.in_ok-events.ensures.says, omega arith, h.2)
 
 pub returns-in_err-zero_or_one : goal.returns-in_err-zero_or_one
 returns-in_err-zero_or_one c =
     let p = err_from_is_err_and c.from_residual-in_err-zero_or_one.result c.from_residual-in_err-zero_or_one.ensures.1 in
     rw (p.1, p.2) (record {
-      says = record { agree = event_bad _ _ _ _ _ c.loop-k-test.true c.row_after-row.ensures c.loop-k.invariant.0 c.in_err-zero_or_one.ensures.says };
+      says = record { agree = event_bad _ _ _ _ _ c.loop-k-test.true c.row_after-origin.ensures c.loop-k.invariant.0 c.in_err-zero_or_one.ensures.says };
       within = tt;
     })
 
 pub loop-k-preserved : goal.loop-k-preserved
 loop-k-preserved c =
     let h = c.in_ok-zero_or_one.ensures.within in
-    (event_read _ _ _ _ _ c.loop-k-test.true c.row_after-row.ensures c.loop-k.invariant.0 c.in_ok-zero_or_one.ensures.says, omega arith, c.loop-k.invariant.2)
+    (event_read _ _ _ _ _ c.loop-k-test.true c.row_after-origin.ensures c.loop-k.invariant.0 c.in_ok-zero_or_one.ensures.says, omega arith, c.loop-k.invariant.2)
 
 pub returns : goal.returns
 returns c =

@@ -2,7 +2,7 @@ use Rattle.std.proofs.Common.{◌≡◌, ◌<◌, length, sym, refl, ◌∙◌, 
 use Rattle.std.proofs.lemmas.Result.{err_from_is_err_and}
 use Rattle.scan.proofs.Runs.{answers}
 use Rattle.scan.proofs.Loops.{going_all}
-use Rattle.system.proofs.Rows.{rows_bad, rows_begin, owner_bad, row_bad, row_read, owner_of}
+use Rattle.system.proofs.Rows.{rows_bad, rows_begin, owner_bad, row_bad, row_read}
 use Rattle.system.proofs.transitions.check_rows.Goals as goal
 
 pub returns-in_err-count : goal.returns-in_err-count
@@ -19,7 +19,7 @@ pub returns-in_err-owner : goal.returns-in_err-owner
 returns-in_err-owner c =
     let p = err_from_is_err_and c.from_residual-in_err-owner.result c.from_residual-in_err-owner.ensures.1 in
     rw (p.1, p.2) (record {
-      says = λ As long stand. record { agree = owner_bad _ _ As _ _ _ _ _ _ _ c.loop-k-test.true c.row_after-origin.ensures (c.loop-k.invariant.0 As long stand) _ (owner_of _ _ _ _ _ _ (sym long) c.in_err-owner.ensures.says) };
+      says = λ As long stand. record { agree = owner_bad _ _ As _ _ _ _ _ _ _ c.loop-k-test.true c.row_after-origin.ensures _ (sym long) (c.loop-k.invariant.0 As long stand) _ c.in_err-owner.ensures.says };
       within = tt;
     })
 
@@ -30,7 +30,7 @@ returns-in_err-end c =
     rw (p.1, p.2) (record {
       says = λ As long stand.
           let below : c.in_ok-owner.owner < length As = omega (arith, h.within.1) in
-          record { agree = row_bad _ _ As _ _ _ _ _ _ _ c.loop-k-test.true c.row_after-origin.ensures (c.loop-k.invariant.0 As long stand) _ _ (owner_of _ _ _ _ _ _ (sym long) h.says) (c.in_err-end.ensures.says _ (stand.begin _ below)).agree };
+          record { agree = row_bad _ _ As _ _ _ _ _ _ _ c.loop-k-test.true c.row_after-origin.ensures _ (sym long) (c.loop-k.invariant.0 As long stand) _ _ h.says (c.in_err-end.ensures.says _ (stand.begin _ below)).agree };
       within = tt;
     })
 
@@ -40,7 +40,7 @@ loop-k-preserved c =
     let g = c.in_ok-end.ensures in (
       λ As long stand.
           let below : c.in_ok-owner.owner < length As = omega (arith, h.within.1) in
-          row_read _ _ As _ _ _ _ _ _ _ c.loop-k-test.true c.row_after-origin.ensures (c.loop-k.invariant.0 As long stand) _ _ (owner_of _ _ _ _ _ _ (sym long) h.says) h.within.2 (g.says _ (stand.begin _ below)),
+          row_read _ _ As _ _ _ _ _ _ _ c.loop-k-test.true c.row_after-origin.ensures _ (sym long) (c.loop-k.invariant.0 As long stand) _ _ h.says h.within.2 (g.says _ (stand.begin _ below)),
       g.within,
       c.loop-k.invariant.2,
     )

@@ -8,18 +8,18 @@ use Rattle.system.proofs.variables.check_variables.Goals as goal
 pub returns-in_err-variables : goal.returns-in_err-variables
 returns-in_err-variables c =
     let p = err_from_is_err_and c.from_residual.result c.from_residual.ensures.1 in
-    rw (p.1, p.2) (record { says = record { agree = variables_bad _ _ _ _ c.count_of.ensures c.in_err-variables.ensures.says }; within = tt })
+    rw (p.1, p.2) (record { says = record { agree = variables_bad _ _ _ _ c.count_of-origin.ensures c.in_err-variables.ensures.says }; within = tt })
 
 pub loop-k-init : goal.loop-k-init
 loop-k-init c =
     let h = c.in_ok-variables.ensures.within in
-    (variables_begin _ _ _ _ c.count_of.ensures c.in_ok-variables.ensures.says, omega arith, h.2)
+    (variables_begin _ _ _ _ c.count_of-origin.ensures c.in_ok-variables.ensures.says, omega arith, h.2)
 
 pub returns-in_err-check_variable : goal.returns-in_err-check_variable
 returns-in_err-check_variable c =
     let p = err_from_is_err_and c.from_residual-in_err-check_variable.result c.from_residual-in_err-check_variable.ensures.1 in
     rw (p.1, p.2) (record {
-      says = record { agree = variable_bad _ _ _ _ _ _ c.loop-k-test.true c.row_after-row.ensures c.loop-k.invariant.0 c.in_err-check_variable.ensures.says.agree };
+      says = record { agree = variable_bad _ _ _ _ _ _ c.loop-k-test.true c.row_after-origin.ensures c.loop-k.invariant.0 c.in_err-check_variable.ensures.says.agree };
       within = tt;
     })
 
@@ -27,7 +27,7 @@ pub loop-k-preserved : goal.loop-k-preserved
 loop-k-preserved c =
     let h = c.in_ok-check_variable.ensures in
     let w = h.says.agree in
-    (variable_read _ _ _ _ _ _ _ c.loop-k-test.true c.row_after-row.ensures c.loop-k.invariant.0 w.is w.holds, omega (arith, h.within), c.loop-k.invariant.2)
+    (variable_read _ _ _ _ _ _ _ c.loop-k-test.true c.row_after-origin.ensures c.loop-k.invariant.0 w.is w.holds, omega (arith, h.within), c.loop-k.invariant.2)
 
 pub returns : goal.returns
 returns c =
