@@ -1,5 +1,6 @@
--- The ten digits, and the longest run of them at a place.
-use Rattle.std.specs.Prelude.{ℕ, ◌<◌, ◌≤◌, List, [], ◌∷◌, length, slice_index}
+-- The ten digits, and the run of them at the head of a text.
+use Rattle.std.specs.Prelude.{◌≡◌, ℕ, ◌≤◌, List, [], ◌∷◌, ◌++◌}
+use Rattle.std.specs.List.{AllByRecursion as All}
 
 pub record Digit (b : ℕ) : Type 0 where
   pub low : 48 ≤ b
@@ -10,8 +11,8 @@ abbrev pub NoDigit : List ℕ → Type 0
 NoDigit [] = Unit {0}
 NoDigit (b ∷ rest) = Digit b → ⊥
 
-pub record Run (s : List ℕ) (at end : ℕ) : Type 0 where
-  pub low : at ≤ end
-  pub within : end ≤ length s
-  pub digits : (k : ℕ) → at ≤ k → k < end → Digit (slice_index s k)
-  pub ends : end < length s → Digit (slice_index s end) → ⊥
+-- the longest run of digits at the head of s, and what follows it
+pub record Run (s digits rest : List ℕ) : Type 0 where
+  pub splits : s ≡ digits ++ rest
+  pub all : All Digit digits
+  pub ends : NoDigit rest

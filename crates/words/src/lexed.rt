@@ -1,40 +1,24 @@
 // Words.
-ghost use Rattle.words.specs.Readings.{WordAt};
+ghost use Rattle.words.specs.Forms.{words};
+ghost use Rattle.words.specs.Readings.{Reads};
 
-use crate::found::Lexed;
-use crate::names::{name_at, stopped, whole};
-use crate::numbers::number_at;
+use crate::names::{expect_whole, is_stopped, read_name};
+use crate::numbers::read_number;
 use model_text::Word;
 
 // A word, with nothing behind it that carries it on.
-pub fn word_at(s: &[u8], at: usize) -> Option<Lexed>
-    ensures { WordAt s.now at result }
+pub fn read_word(text: &[u8]) -> Option<(Word, &[u8])>
+    ensures { Reads words text.now result }
 {
-    if let Some(x) = name_at(s, at) {
-        return Some(Lexed {
-            word: Word::Name(x.name),
-            end: x.end,
-        });
+    if let Some((name, rest)) = read_name(text) {
+        return Some((Word::Name(name), rest));
     }
-    if let Some(end) = whole(s, at, b"TRUE") {
-        return Some(Lexed {
-            word: Word::Truth(true),
-            end,
-        });
+    if let Some(rest) = expect_whole(text, b"TRUE") {
+        return Some((Word::Truth(true), rest));
     }
-    if let Some(end) = whole(s, at, b"FALSE") {
-        return Some(Lexed {
-            word: Word::Truth(false),
-            end,
-        });
+    if let Some(rest) = expect_whole(text, b"FALSE") {
+        return Some((Word::Truth(false), rest));
     }
-    let n = number_at(s, at, 32768)?;
-    if stopped(s, n.end) {
-        Some(Lexed {
-            word: Word::Number(n.value as u16),
-            end: n.end,
-        })
-    } else {
-        None
-    }
+    let (n, rest) = read_number(text, 32768)?;
+    is_stopped(rest).then_some((Word::Number(n as u16), rest))
 }

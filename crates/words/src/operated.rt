@@ -1,90 +1,47 @@
 // Operators with their spaces.
-ghost use Rattle.words.specs.Readings.{OperatorAt};
-ghost use Rattle.words.specs.Operators.{KindAt, joints, orders, signs};
+ghost use Rattle.std.specs.Prelude.{◌≡◌};
+ghost use Rattle.model_text.specs.Words.{operator_text};
+ghost use Rattle.words.specs.Forms.{operators};
+ghost use Rattle.words.specs.Readings.{Reads};
 
 use crate::expected::expect;
-use crate::found::Operated;
 use expr::code::{Joint, Order, Sign};
 use model_text::Operator;
 
-fn joint_at(s: &[u8], at: usize) -> Option<Operated>
-    ensures { KindAt joints s.now at result }
-{
-    if let Some(end) = expect(s, at, b" & ") {
-        return Some(Operated {
-            operator: Operator::Join(Joint::And),
-            end,
-        });
-    }
-    if let Some(end) = expect(s, at, b" | ") {
-        return Some(Operated {
-            operator: Operator::Join(Joint::Or),
-            end,
-        });
-    }
-    None
-}
+const OPERATORS: [Operator; 8] = [
+    Operator::Join(Joint::And),
+    Operator::Join(Joint::Or),
+    Operator::Test(Order::Eq),
+    Operator::Test(Order::Ne),
+    Operator::Test(Order::Lt),
+    Operator::Test(Order::Le),
+    Operator::Sum(Sign::Plus),
+    Operator::Sum(Sign::Minus),
+];
 
-fn order_at(s: &[u8], at: usize) -> Option<Operated>
-    ensures { KindAt orders s.now at result }
+fn symbol(operator: Operator) -> &'static [u8]
+    ensures { result.now ≡ operator_text operator }
 {
-    if let Some(end) = expect(s, at, b" = ") {
-        return Some(Operated {
-            operator: Operator::Test(Order::Eq),
-            end,
-        });
+    match operator {
+        Operator::Join(Joint::And) => b" & ",
+        Operator::Join(Joint::Or) => b" | ",
+        Operator::Test(Order::Eq) => b" = ",
+        Operator::Test(Order::Ne) => b" != ",
+        Operator::Test(Order::Lt) => b" < ",
+        Operator::Test(Order::Le) => b" <= ",
+        Operator::Sum(Sign::Plus) => b" + ",
+        Operator::Sum(Sign::Minus) => b" - ",
     }
-    if let Some(end) = expect(s, at, b" != ") {
-        return Some(Operated {
-            operator: Operator::Test(Order::Ne),
-            end,
-        });
-    }
-    if let Some(end) = expect(s, at, b" < ") {
-        return Some(Operated {
-            operator: Operator::Test(Order::Lt),
-            end,
-        });
-    }
-    if let Some(end) = expect(s, at, b" <= ") {
-        return Some(Operated {
-            operator: Operator::Test(Order::Le),
-            end,
-        });
-    }
-    None
-}
-
-fn sign_at(s: &[u8], at: usize) -> Option<Operated>
-    ensures { KindAt signs s.now at result }
-{
-    if let Some(end) = expect(s, at, b" + ") {
-        return Some(Operated {
-            operator: Operator::Sum(Sign::Plus),
-            end,
-        });
-    }
-    if let Some(end) = expect(s, at, b" - ") {
-        return Some(Operated {
-            operator: Operator::Sum(Sign::Minus),
-            end,
-        });
-    }
-    None
 }
 
 // One of the eight operators.
-pub fn operator_at(s: &[u8], at: usize) -> Option<Operated>
-    ensures { OperatorAt s.now at result }
+pub fn read_operator(text: &[u8]) -> Option<(Operator, &[u8])>
+    ensures { Reads operators text.now result }
 {
-    if let Some(x) = joint_at(s, at) {
-        return Some(x);
-    }
-    if let Some(x) = order_at(s, at) {
-        return Some(x);
-    }
-    if let Some(x) = sign_at(s, at) {
-        return Some(x);
+    for operator in &OPERATORS {
+        if let Some(rest) = expect(text, symbol(*operator)) {
+            return Some((*operator, rest));
+        }
     }
     None
 }
