@@ -1,5 +1,5 @@
 -- No word or operator where none of its forms stands.
-use Rattle.std.proofs.Common.{◌≡◌, ◌≢◌, ℕ, ◌<◌, ◌≤◌, true, false, List, [], ◌∷◌, ◌++◌, length, codes, refl, sym, subst, arith}
+use Rattle.std.proofs.Common.{◌≡◌, ◌≢◌, ℕ, true, false, List, ◌++◌, length, codes, refl, sym, subst, arith}
 use Rattle.std.specs.List.{AllWithin, Contains}
 use Rattle.expr.specs.declared.code.Joint.TheVariants.{And, Or}
 use Rattle.expr.specs.declared.code.Order.TheVariants.{Eq, Ne, Lt, Le}
@@ -9,7 +9,7 @@ use Rattle.model_text.specs.declared.words.Operator.TheVariants.{Join, Test, Sum
 use Rattle.model_text.specs.declared.words.Word.{Word}
 use Rattle.model_text.specs.declared.words.Word.TheVariants as W
 use Rattle.model_text.specs.Words.{spelled, operator_text, GoodWord, Stops}
-use Rattle.words.specs.declared.operated.TheConstants.{OPERATORS}
+use Rattle.words.specs.declared.operators.TheConstants.{OPERATORS}
 use Rattle.words.specs.Forms.{numbers, names, words, operators}
 use Rattle.words.specs.Readings.{Found, Nothing}
 use Rattle.words.proofs.Signs.{same_number}
@@ -23,7 +23,7 @@ module _ (s : List ℕ) where
         go : (w : Word) (r : List ℕ) → GoodWord w → Stops r → s ≡ spelled w ++ r → ⊥
         go (W.Truth true) r g u p = a r u p
         go (W.Truth false) r g u p = b r u p
-        go (W.Number k) r g u p = on (subst Stops (sym (same_number 32768 s v rest (omega arith) f k r g (no_digit r u) p).1) u)
+        go (W.Number k) r g u p = on (subst Stops (sym (same_number 32768 s v rest (omega arith) f k r (omega arith) (no_digit r u) p).1) u)
         go (W.Name x) r g u p = n.none x r g u p
 
   all_operators : (o : Operator) → Contains OPERATORS o

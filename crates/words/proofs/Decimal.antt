@@ -1,24 +1,24 @@
 -- A number from the run of digits at the head of a text.
-use Rattle.std.proofs.Common.{◌≡◌, ℕ, ◌-◌, ◌^◌, ◌<◌, ◌≤◌, ◌⊎◌, List, [], ◌∷◌, ◌++◌, length, get_or, take, drop, Option, Some, None, MatchOption, Result, Ok, Err, MatchResult, Bor, unwrap_or, decimal, sym, ap, ◌∙◌, subst, inl, inr, arith, length-append, length-take}
+use Rattle.std.proofs.Common.{◌≡◌, ℕ, ◌^◌, ◌<◌, ◌≤◌, ◌⊎◌, List, [], ◌∷◌, ◌++◌, length, get_or, take, drop, Option, Some, None, MatchOption, Result, Ok, Err, MatchResult, Bor, unwrap_or, decimal, sym, ap, ◌∙◌, inl, inr, arith, length-append, length-take}
 use Rattle.std.specs.Result.{result_ok, OkIff}
 use Rattle.std.specs.Str.{IsUtf8}
 use Rattle.std.specs.Str.Parse.{digits_value}
 use Rattle.std.specs.List.{AllByRecursion as All, AllWithin, HoldsAt}
 use Rattle.std.proofs.lemmas.List.{take-append-drop, drop_more, drop_all, get_or-take}
 use Rattle.std.proofs.lemmas.Str.{IsUtf8-from_ascii}
-use Rattle.std.proofs.ByRecursion.{All-from_get_or, All-weaker, IsAscii-from_all, all_from_every}
+use Rattle.std.proofs.ByRecursion.{All-from_get_or, All-weaker, IsAscii-from_all}
 use Rattle.std.proofs.lemmas.Bool.{cases_lt, cases_eq}
 use Rattle.std.proofs.lemmas.Str.Parse.{IsNumeralModel, numerals_by_value}
 use Rattle.std.proofs.lemmas.Fmt.{decimal-digits_value, decimal_injective, digits_value-decimal, decimal_nonempty, decimal_digit, first_decimal}
 use Rattle.model_text.proofs.Munch.{Halts, munch, digits_all}
-use Rattle.words.specs.Digits.{Digit, NoDigit, Run}
+use Rattle.words.specs.Digits.{Digit, NoDigit, Run, Spells}
 use Rattle.words.specs.Forms.{numbers}
 use Rattle.words.specs.Readings.{Found, Nothing}
 
 pub own : IsNumeralModel (λ ds. All Digit ds) (digits_value 10)
 own = numerals_by_value (λ ds. All Digit ds) (record { empty = tt; parts = λ c cs h. ((h.0.low, h.0.high), h.1); more = λ c cs i h. (record { low = i.0; high = i.1 }, h) })
 
-pub digits_utf8 : (ds : List ℕ) → All Digit ds → IsUtf8 ds
+digits_utf8 : (ds : List ℕ) → All Digit ds → IsUtf8 ds
 digits_utf8 ds all = IsUtf8-from_ascii ds (IsAscii-from_all ds (All-weaker Digit (λ b. b < 128) (λ b d. omega (arith, d.high)) ds all))
 
 -- what reading digits as text and then as a number answers
@@ -34,7 +34,7 @@ module _ (ds : List ℕ) (all : All Digit ds) where
   digits_text P (Ok x) h t z = let e : t ≡ x = cc in ap (λ w. w.now) e ∙ h.0
   digits_text P (Err e) h t z = cc
 
-  pub digits_number : {E : Type 0} (r : Result ℕ E) → OkIff r ((0 < length ds) × (digits_value 10 ds < 2 ^ 32)) (digits_value 10 ds) → MatchOption (result_ok r) ((length ds ≡ 0) ⊎ (2 ^ 32 ≤ digits_value 10 ds)) (λ v. (0 < length ds) × (v ≡ digits_value 10 ds))
+  pub digits_number : {E : Type 0} (r : Result ℕ E) → OkIff r ((0 < length ds) × (digits_value 10 ds < 2 ^ 32)) (digits_value 10 ds) → Spells ds (result_ok r)
   digits_number (Ok v) h = (h.0.0, h.1)
   digits_number (Err e) h = elim (cases_lt 0 (length ds)) [
     | inl some ↦ elim (cases_lt (digits_value 10 ds) (2 ^ 32)) [ inl small ↦ absurd (h (some, small)) | inr large ↦ inr large ]

@@ -1,11 +1,10 @@
 -- Names with numbers from their parts.
 use Rattle.std.proofs.Common.{◌≡◌, ◌≢◌, ℕ, ◌≤◌, List, [], ◌∷◌, ◌++◌, length, decimal, sym, ap, ◌∙◌, subst, append_assoc, arith}
-use Rattle.std.proofs.lemmas.List.{append_cancel_left}
 use Rattle.model_text.specs.declared.words.Name.{Name}
 use Rattle.model_text.specs.declared.words.Name.TheVariants as N
 use Rattle.model_text.specs.declared.words.Single.{Single}
 use Rattle.model_text.specs.declared.words.Double.{Double}
-use Rattle.model_text.specs.Words.{single, double, name_text, Stops}
+use Rattle.model_text.specs.Words.{double, name_text, Stops}
 use Rattle.words.specs.Digits.{Digit, NoDigit}
 use Rattle.words.specs.Forms.{numbers, nexts}
 use Rattle.words.specs.Readings.{Found, Nothing}
@@ -57,7 +56,7 @@ module _ (s behind : List ℕ) (b : ℕ) (st : s ≡ b ∷ behind) where
 
   module _ (v : ℕ) (mid : List ℕ) (f : Found (numbers 999) behind v mid) where
     second : (n m : ℕ) (r : List ℕ) → n ≤ 999 → behind ≡ decimal n ++ (95 ∷ (decimal m ++ r)) → mid ≡ 95 ∷ (decimal m ++ r)
-    second n m r g t = (same_number 999 behind v mid (omega arith) f n _ g no_low_line t).1
+    second n m r g t = (same_number 999 behind v mid (omega arith) f n _ (omega arith) no_low_line t).1
 
     pub two_bare : ((r : List ℕ) → mid ≢ 95 ∷ r) → Nothing twos s
     two_bare none = two_by (λ n m r g h u t. none _ (second n m r g t))
@@ -71,7 +70,7 @@ module _ (s behind : List ℕ) (b : ℕ) (st : s ≡ b ∷ behind) where
 
       module _ (w : ℕ) (rest : List ℕ) (l : Found (numbers 999) low w rest) where
         pub two_runs : (Stops rest → ⊥) → Nothing twos s
-        two_runs on = two_by (λ n m r g h u t. on (subst Stops (sym (same_number 999 low w rest (omega arith) l m r h (no_digit r u) (third n m r g t)).1) u))
+        two_runs on = two_by (λ n m r g h u t. on (subst Stops (sym (same_number 999 low w rest (omega arith) l m r (omega arith) (no_digit r u) (third n m r g t)).1) u))
 
         pub a_two : (x : Double) → double x ≡ b → Stops rest → Found twos s (N.Two x v w) rest
         a_two x letter stops =

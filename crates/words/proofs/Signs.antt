@@ -9,17 +9,17 @@ use Rattle.words.specs.Readings.{Found, Nothing}
 use Rattle.words.proofs.Decimal.{one_number}
 
 -- the number that is read is the one printed
-pub same_number : (max : ℕ) (s : List ℕ) (v : ℕ) (rest : List ℕ) → max < 2 ^ 32 → Found (numbers max) s v rest → (n : ℕ) (r : List ℕ) → n ≤ max → NoDigit r → s ≡ decimal n ++ r → (v ≡ n) × (rest ≡ r)
+pub same_number : (max : ℕ) (s : List ℕ) (v : ℕ) (rest : List ℕ) → max < 2 ^ 32 → Found (numbers max) s v rest → (n : ℕ) (r : List ℕ) → n < 2 ^ 64 → NoDigit r → s ≡ decimal n ++ r → (v ≡ n) × (rest ≡ r)
 same_number max s v rest small f n r low follow t =
-    one_number v n rest r (omega (arith, f.good)) (omega arith) f.ends follow (sym f.text ∙ t)
+    one_number v n rest r (omega (arith, f.good)) low f.ends follow (sym f.text ∙ t)
 
 pub no_close : Digit 41 → ⊥
 no_close d = omega (arith, d.low)
 
 -- behind `(-`
-module _ (s : List ℕ) (v : ℕ) (rest : List ℕ) (f : Found (numbers 32768) s v rest) where
+module _ (max : ℕ) (small : max < 2 ^ 32) (s : List ℕ) (v : ℕ) (rest : List ℕ) (f : Found (numbers max) s v rest) where
   minus_number : (k : ℕ) (r : List ℕ) → k ≤ 32768 → s ≡ (decimal k ++ (41 ∷ [])) ++ r → (v ≡ k) × (rest ≡ 41 ∷ r)
-  minus_number k r low t = same_number 32768 s v rest (omega arith) f k (41 ∷ r) low no_close (t ∙ append_assoc (decimal k) (41 ∷ []) r)
+  minus_number k r low t = same_number max s v rest small f k (41 ∷ r) (omega arith) no_close (t ∙ append_assoc (decimal k) (41 ∷ []) r)
 
   pub minus_zero : v ≡ 0 → Nothing minuses s
   minus_zero none = record { none = λ k r g u t. omega (arith, g.0, (minus_number k r g.1 t).0) }
@@ -47,4 +47,4 @@ module _ (max most : ℕ) (cap : most ≡ min max 2147483647) (s behind : List �
   negative_none n = negative (λ k r g u t. n.none (suc k) r g u t)
 
   pub negative_zero : (v : ℕ) (rest : List ℕ) → Found (numbers most) behind v rest → v ≡ 0 → Nothing (signeds max) s
-  negative_zero v rest f none = negative (λ k r g u t. omega (arith, (same_number most behind v rest (omega arith) f (suc k) r g u t).0))
+  negative_zero v rest f none = negative (λ k r g u t. omega (arith, (same_number most behind v rest (omega arith) f (suc k) r (omega arith) u t).0))

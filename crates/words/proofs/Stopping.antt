@@ -1,7 +1,7 @@
 -- Where a word stops.
-use Rattle.std.proofs.Common.{◌≡◌, ℕ, Bool, true, false, List, [], ◌∷◌, ◌++◌, Option, Some, None, MatchOption, Bor, Decides, refl, sym, ◌∙◌, subst, inl, inr, arith}
+use Rattle.std.proofs.Common.{◌≡◌, ℕ, Bool, true, false, List, [], ◌∷◌, Option, Some, None, MatchOption, Bor, Decides, refl, sym, ◌∙◌, subst, inl, inr, arith}
 use Rattle.std.proofs.lemmas.List.{append_cancel_left}
-use Rattle.model_text.specs.Words.{Stop, Stops}
+use Rattle.model_text.specs.Words.{Stops}
 use Rattle.std.specs.Bool.{then_some}
 use Rattle.words.specs.Digits.{NoDigit}
 use Rattle.words.specs.Expecting.{Expects}

@@ -1,14 +1,14 @@
-// Reading the words of a model text: each reader answers what stands at the head of a text, with the text behind it.
+// Reading the words of a model text: a reader answers what stands at the head of a text, and the text behind it.
 #![tactic(auto)]
 
 mod expected;
-mod lexed;
 mod names;
 mod numbers;
-mod operated;
+mod operators;
+mod word;
 
 pub use expected::expect;
-pub use lexed::read_word;
 pub use names::{read_name, read_next_name};
 pub use numbers::{read_minus, read_number, read_signed};
-pub use operated::read_operator;
+pub use operators::read_operator;
+pub use word::read_word;

@@ -1,8 +1,6 @@
 // Numbers in decimal.
-ghost use Rattle.std.specs.Prelude.{◌≡◌, ℕ, ◌^◌, ◌<◌, ◌≤◌, ◌⊎◌, length, MatchOption};
-ghost use Rattle.std.specs.Str.Parse.{digits_value};
 ghost use Rattle.std.specs.List.{AllByRecursion as All};
-ghost use Rattle.words.specs.Digits.{Digit, Run};
+ghost use Rattle.words.specs.Digits.{Digit, Run, Spells};
 ghost use Rattle.words.specs.Forms.{numbers, signeds, minuses};
 ghost use Rattle.words.specs.Readings.{Reads};
 
@@ -19,7 +17,7 @@ fn split_digits(text: &[u8]) -> (&[u8], &[u8])
 // The number that digits spell, if there are any and it fits.
 fn value_of(digits: &[u8]) -> Option<u32>
     requires { All Digit digits.now }
-    ensures { MatchOption result ((length digits.now ≡ 0) ⊎ (2 ^ 32 ≤ digits_value 10 digits.now)) (λ v. (0 < length digits.now) × (v ≡ digits_value 10 digits.now)) }
+    ensures { Spells digits.now result }
 {
     str::from_utf8(digits).ok()?.parse().ok()
 }

@@ -3,7 +3,7 @@ use Rattle.model_text.specs.Words.{Stops}
 use Rattle.words.specs.Forms.{words}
 use Rattle.words.proofs.Choosing.{word_runs}
 use Rattle.words.proofs.Stopping.{kept}
-use Rattle.words.proofs.lexed.read_word.Goals as goal
+use Rattle.words.proofs.word.read_word.Goals as goal
 
 pub returns : goal.returns
 returns c =
