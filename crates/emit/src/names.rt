@@ -1,38 +1,11 @@
 // The names of a model text.
 ghost use Rattle.std.specs.Prelude.{◌≡◌, fold};
-ghost use Rattle.model_text.specs.Words.{single, double, name_text};
+ghost use Rattle.model_text.specs.Words.{name_text};
 ghost use Rattle.translation.specs.Written.{join_name, settle_name};
 
 use expr::Names;
 use model_text::{Double, Name, Single};
 use sinks::{Sink, put_number, put_text};
-
-fn single_letter(x: Single) -> u8
-    ensures { result ≡ single x }
-{
-    match x {
-        Single::Choice => b'c',
-        Single::Location => b's',
-        Single::Variable => b'u',
-        Single::SettledValue => b'z',
-        Single::Permission => b'y',
-        Single::PlantsOpen => b'p',
-        Single::LocationMarked => b'l',
-    }
-}
-
-fn double_letter(x: Double) -> u8
-    ensures { result ≡ double x }
-{
-    match x {
-        Double::Transition => b't',
-        Double::WishStatus => b'w',
-        Double::WishValue => b'd',
-        Double::JoinedStatus => b'a',
-        Double::JoinedValue => b'b',
-        Double::Open => b'n',
-    }
-}
 
 pub fn put_name<S: Sink>(s: &mut S, x: Name)
     ensures { s.new ≡ fold S.Sink.step s.old (name_text x) }
@@ -41,11 +14,11 @@ pub fn put_name<S: Sink>(s: &mut S, x: Name)
         Name::Event => put_text(s, b"ev"),
         Name::Marked => put_text(s, b"mk"),
         Name::One(x, n) => {
-            s.put(single_letter(x));
+            s.put(x.letter());
             put_number(s, n as u64);
         }
         Name::Two(x, n, m) => {
-            s.put(double_letter(x));
+            s.put(x.letter());
             put_number(s, n as u64);
             put_text(s, b"_");
             put_number(s, m as u64);
@@ -78,7 +51,8 @@ impl Names for Joining {
 }
 
 // The variables of the expressions that settle a variable: what the wishes for it come to up to
-// an automaton, and its old value.
+// an automaton, named as in a join, and its old value.
+// Not one table of names for both: `Names` names every number, so a table needs a name past its end.
 #[derive(Clone, Copy)]
 pub struct Settling {
     pub variable: u8,
@@ -89,13 +63,17 @@ impl Names for Settling {
     ghost name = { λ j v. name_text (settle_name j.variable j.automaton v) };
 
     fn put_name<S: Sink>(&self, s: &mut S, v: u8) {
-        let i = self.variable as u16;
-        let k = self.automaton as u16;
-        let name = match v {
-            0 => Name::Two(Double::JoinedStatus, i, k),
-            1 => Name::Two(Double::JoinedValue, i, k),
-            _ => Name::One(Single::Variable, i),
-        };
-        put_name(s, name)
+        let Settling {
+            variable,
+            automaton,
+        } = *self;
+        match v {
+            0 | 1 => Joining {
+                variable,
+                automaton,
+            }
+            .put_name(s, v),
+            _ => put_name(s, Name::One(Single::Variable, variable as u16)),
+        }
     }
 }

@@ -1,3 +1,4 @@
+pub mod Letters
 pub mod Munch
 pub mod Spelling
 pub mod Unique

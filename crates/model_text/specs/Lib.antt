@@ -1,5 +1,6 @@
 pub mod Lists
 pub mod Words
+pub mod Letters
 pub mod Trees
 pub mod Ranges
 pub mod Lines

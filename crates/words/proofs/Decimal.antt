@@ -1,24 +1,45 @@
--- A number from its run of digits.
-use Rattle.std.proofs.Common.{◌≡◌, ℕ, ◌+◌, ◌-◌, ◌*◌, ◌^◌, ◌<◌, ◌≤◌, List, [], ◌∷◌, ◌++◌, length, get_or, take, drop, decimal, sym, ap, ◌∙◌, inl, inr, arith, length-append, length-drop, length-take}
-use Rattle.std.specs.Char.{digit_value}
+-- A number from the run of digits at the head of a text.
+use Rattle.std.proofs.Common.{◌≡◌, ℕ, ◌^◌, ◌<◌, ◌≤◌, ◌⊎◌, List, [], ◌∷◌, ◌++◌, length, get_or, take, drop, Option, Some, None, MatchOption, Result, Ok, Err, MatchResult, Bor, unwrap_or, decimal, sym, ap, ◌∙◌, inl, inr, arith, length-append, length-take}
+use Rattle.std.specs.Result.{result_ok, OkIff}
+use Rattle.std.specs.Str.{IsUtf8}
 use Rattle.std.specs.Str.Parse.{digits_value}
-use Rattle.std.specs.List.{between, AllByRecursion as All}
-use Rattle.std.proofs.lemmas.List.{take-append-drop, drop-drop, drop_more, drop_all, get_or-take, get_or-drop}
-use Rattle.std.proofs.ByRecursion.{All-from_get_or, All-weaker}
-use Rattle.std.proofs.lemmas.Bool.{cases_lt, cases_eq, lt-ltb, le-ltb}
-use Rattle.std.proofs.lemmas.Int.Digits.{digits_value_more}
-use Rattle.std.proofs.lemmas.Str.Parse.{IsNumeralModel, numerals_by_value, digits_value_short}
-use Rattle.std.proofs.lemmas.Fmt.{decimal-digits_value, decimal_injective, digits_value-decimal, decimal_nonempty, decimal_digit, first_decimal, length-decimal-le}
+use Rattle.std.specs.List.{AllByRecursion as All, AllWithin, HoldsAt}
+use Rattle.std.proofs.lemmas.List.{take-append-drop, drop_more, drop_all, get_or-take}
+use Rattle.std.proofs.lemmas.Str.{IsUtf8-from_ascii}
+use Rattle.std.proofs.ByRecursion.{All-from_get_or, All-weaker, IsAscii-from_all}
+use Rattle.std.proofs.lemmas.Bool.{cases_lt, cases_eq}
+use Rattle.std.proofs.lemmas.Str.Parse.{IsNumeralModel, numerals_by_value}
+use Rattle.std.proofs.lemmas.Fmt.{decimal-digits_value, decimal_injective, digits_value-decimal, decimal_nonempty, decimal_digit, first_decimal}
 use Rattle.model_text.proofs.Munch.{Halts, munch, digits_all}
-use Rattle.words.specs.Digits.{Digit, NoDigit, Run}
+use Rattle.words.specs.Digits.{Digit, NoDigit, Run, Spells}
 use Rattle.words.specs.Forms.{numbers}
 use Rattle.words.specs.Readings.{Found, Nothing}
 
-own : IsNumeralModel (λ ds. All Digit ds) (digits_value 10)
+pub own : IsNumeralModel (λ ds. All Digit ds) (digits_value 10)
 own = numerals_by_value (λ ds. All Digit ds) (record { empty = tt; parts = λ c cs h. ((h.0.low, h.0.high), h.1); more = λ c cs i h. (record { low = i.0; high = i.1 }, h) })
 
-digit_value_lem : (b : ℕ) → Digit b → digit_value b ≡ b - 48
-digit_value_lem b d = rw (le-ltb b 48 d.low, lt-ltb b 58 (omega (arith, d.high)))
+digits_utf8 : (ds : List ℕ) → All Digit ds → IsUtf8 ds
+digits_utf8 ds all = IsUtf8-from_ascii ds (IsAscii-from_all ds (All-weaker Digit (λ b. b < 128) (λ b d. omega (arith, d.high)) ds all))
+
+-- what reading digits as text and then as a number answers
+module _ (ds : List ℕ) (all : All Digit ds) where
+  abbrev TextOf : {E : Type 0} (P : E → Type 0) → Result (Bor (List ℕ)) E → Type 0
+  TextOf P r = MatchResult r (λ t. (t.now ≡ ds) × IsUtf8 ds) (λ e. ¬ IsUtf8 ds × P e)
+
+  pub digits_read : {E : Type 0} (P : E → Type 0) (r : Result (Bor (List ℕ)) E) → TextOf P r → result_ok r ≡ None → ⊥
+  digits_read P (Ok t) h z = cc
+  digits_read P (Err e) h z = h.0 (digits_utf8 ds all)
+
+  pub digits_text : {E : Type 0} (P : E → Type 0) (r : Result (Bor (List ℕ)) E) → TextOf P r → (t : Bor (List ℕ)) → Some t ≡ result_ok r → t.now ≡ ds
+  digits_text P (Ok x) h t z = let e : t ≡ x = cc in ap (λ w. w.now) e ∙ h.0
+  digits_text P (Err e) h t z = cc
+
+  pub digits_number : {E : Type 0} (r : Result ℕ E) → OkIff r ((0 < length ds) × (digits_value 10 ds < 2 ^ 32)) (digits_value 10 ds) → Spells ds (result_ok r)
+  digits_number (Ok v) h = (h.0.0, h.1)
+  digits_number (Err e) h = elim (cases_lt 0 (length ds)) [
+    | inl some ↦ elim (cases_lt (digits_value 10 ds) (2 ^ 32)) [ inl small ↦ absurd (h (some, small)) | inr large ↦ inr large ]
+    | inr none ↦ inl (omega arith)
+  ]
 
 halts : (rest : List ℕ) → NoDigit rest → Halts Digit rest
 halts [] h = tt
@@ -36,95 +57,54 @@ one_number m n r q g h s t e =
     let p = split (decimal m) (decimal n) r q (all_digits m g) (all_digits n h) s t e in
     (decimal_injective m n g h p.0, p.1)
 
-pub past_number : (s : List ℕ) (at max : ℕ) → max < 2 ^ 32 → length s ≤ at → Nothing (numbers max) s at
-past_number s at max small past =
-    record { none = λ n rest h follow t. omega (arith, decimal_nonempty n (omega arith), simp length-append at (ap length (sym (drop_all at s past) ∙ t))) }
-
-module _ (s : List ℕ) (at end : ℕ) (run : Run s at end) where
-  length_run : length (between at end s) ≡ end - at
-  length_run = simp (length-take, length-drop) (omega (arith, run.low, run.within))
-
-  -- any front of the run
-  front_digits : (i : ℕ) → at ≤ i → i ≤ end → All Digit (between at i s)
-  front_digits i low high =
-      let long : length (between at i s) ≡ i - at = simp (length-take, length-drop) (omega (arith, run.within)) in
-      All-from_get_or Digit (between at i s) 0
-      (λ k h. let under : k < i - at = omega arith in rw (get_or-take (i - at) (drop at s) k 0 under, get_or-drop at s k 0) (run.digits (at + k) (omega arith) (omega arith)))
-
-  run_digits : All Digit (between at end s)
-  run_digits = front_digits end run.low (omega arith)
-
-  run_splits : drop at s ≡ between at end s ++ drop end s
-  run_splits =
-      sym (take-append-drop (end - at) (drop at s))
-      ∙ ap (λ z. between at end s ++ z) (drop-drop (end - at) at s ∙ ap (λ i. drop i s) (omega (arith, run.low)))
-
-  run_halts : NoDigit (drop end s)
-  run_halts = elim (cases_lt end (length s)) [
-    | inl under ↦ rw (drop_more s end 0 under) (run.ends under)
-    | inr past ↦ rw (drop_all end s past) tt
-  ]
-
+module _ (s digits rest : List ℕ) (run : Run s digits rest) where
   -- a number that stands there is the run
-  matches : (n : ℕ) (rest : List ℕ) → n < 2 ^ 64 → NoDigit rest → drop at s ≡ decimal n ++ rest → between at end s ≡ decimal n
-  matches n rest small follow t =
-      (split (between at end s) (decimal n) (drop end s) rest run_digits (all_digits n small) run_halts follow (sym run_splits ∙ t)).0
-
-  pub value_step_lem : (n i : ℕ) → at ≤ i → i < end → n ≡ digits_value 10 (between at i s) → n * 10 + (get_or s i 0 - 48) ≡ digits_value 10 (between at (i + 1) s)
-  value_step_lem n i low high is =
-      let next : i + 1 - at ≡ (i - at) + 1 = omega arith in
-      let byte : get_or (drop at s) (i - at) 0 ≡ get_or s i 0 = get_or-drop at s (i - at) 0 ∙ ap (λ k. get_or s k 0) (omega arith) in
-      let more = digits_value_more 10 (drop at s) (i - at) (simp length-drop (omega (arith, run.within))) in
-      ap (λ k. k * 10 + (get_or s i 0 - 48)) is
-      ∙ ap (λ d. digits_value 10 (between at i s) * 10 + d) (sym (digit_value_lem (get_or s i 0) (run.digits i low high)) ∙ ap digit_value (sym byte))
-      ∙ sym more ∙ ap (λ k. digits_value 10 (take k (drop at s))) (sym next)
-
-  pub value-under : (i : ℕ) → at ≤ i → i ≤ end → digits_value 10 (between at i s) < 10 ^ (i - at)
-  value-under i low high =
-      digits_value_short own (between at i s) (i - at) (front_digits i low high) (simp (length-take, length-drop) (omega (arith, run.within)))
-
-  first_byte : at < end → get_or (between at end s) 0 0 ≡ get_or s at 0
-  first_byte some =
-      let under : 0 < end - at = omega arith in
-      get_or-take (end - at) (drop at s) 0 0 under ∙ get_or-drop at s 0 0 ∙ ap (λ k. get_or s k 0) (omega arith)
+  matches : (n : ℕ) (r : List ℕ) → n < 2 ^ 64 → NoDigit r → s ≡ decimal n ++ r → digits ≡ decimal n
+  matches n r small follow t = (split digits (decimal n) rest r run.all (all_digits n small) run.ends follow (sym run.splits ∙ t)).0
 
   module _ (max : ℕ) (small : max < 2 ^ 32) where
-    pub no_digits : end ≡ at → Nothing (numbers max) s at
-    no_digits none =
-        record {
-          none = λ n rest h follow t.
-              omega (arith, decimal_nonempty n (omega arith), ap length (matches n rest (omega arith) follow t), length_run);
-        }
-
-    pub too_long : 10 < end - at → Nothing (numbers max) s at
-    too_long long =
-        record {
-          none = λ n rest h follow t.
-              omega (arith, length-decimal-le 10 n (omega arith) (omega arith) (omega arith), ap length (matches n rest (omega arith) follow t), length_run);
-        }
-
-    pub zero_led : get_or s at 0 ≡ 48 → 1 < end - at → Nothing (numbers max) s at
+    pub zero_led : get_or digits 0 0 ≡ 48 → 1 < length digits → Nothing (numbers max) s
     zero_led zero long =
         record {
-          none = λ n rest h follow t.
-              let m = matches n rest (omega arith) follow t in
-              let f : get_or (decimal n) 0 0 ≡ 48 = ap (λ z. get_or z 0 0) (sym m) ∙ first_byte (omega arith) ∙ zero in
+          none = λ n r h follow t.
+              let m = matches n r (omega arith) follow t in
               elim (cases_eq n 0) [
-                | inl is ↦ let one : length (decimal n) ≡ 1 = ap (λ k. length (decimal k)) is ∙ ap length (decimal_digit 0 (omega arith)) in omega (arith, ap length m, length_run)
-                | inr some ↦ omega (arith, first_decimal n (omega arith) (omega arith))
+                | inl is ↦ let one : length (decimal n) ≡ 1 = ap (λ k. length (decimal k)) is ∙ ap length (decimal_digit 0 (omega arith)) in omega (arith, ap length m)
+                | inr some ↦ omega (arith, first_decimal n (omega arith) (omega arith), ap (λ z. get_or z 0 0) m)
               ];
         }
 
-    module _ (v : ℕ) (is : v ≡ digits_value 10 (between at end s)) where
-      pub too_large : max < v → Nothing (numbers max) s at
+    pub no_value : (length digits ≡ 0) ⊎ (2 ^ 32 ≤ digits_value 10 digits) → Nothing (numbers max) s
+    no_value (inl none) = record { none = λ n r h follow t. omega (arith, decimal_nonempty n (omega arith), ap length (matches n r (omega arith) follow t)) }
+    no_value (inr large) =
+        record {
+          none = λ n r h follow t.
+              let e : digits_value 10 digits ≡ n = ap (digits_value 10) (matches n r (omega arith) follow t) ∙ digits_value-decimal own n (omega arith) in
+              omega arith;
+        }
+
+    module _ (v : ℕ) (is : v ≡ digits_value 10 digits) where
+      pub too_large : max < v → Nothing (numbers max) s
       too_large large =
           record {
-            none = λ n rest h follow t.
-                let e : v ≡ n = is ∙ ap (digits_value 10) (matches n rest (omega arith) follow t) ∙ digits_value-decimal own n (omega arith) in
+            none = λ n r h follow t.
+                let e : v ≡ n = is ∙ ap (digits_value 10) (matches n r (omega arith) follow t) ∙ digits_value-decimal own n (omega arith) in
                 omega arith;
           }
 
-      pub a_number : at < end → (get_or s at 0 ≡ 48 → end - at ≤ 1) → v ≤ max → Found (numbers max) s at v end
+      pub a_number : 0 < length digits → (get_or digits 0 0 ≡ 48 → length digits ≡ 1) → v ≤ max → Found (numbers max) s v rest
       a_number some zero low =
-          let d : decimal v ≡ between at end s = ap decimal is ∙ decimal-digits_value own (between at end s) run_digits (omega (arith, length_run)) (λ f. omega (arith, length_run, zero (sym (first_byte some) ∙ f))) (omega (arith, is)) in
-          record { good = low; text = run_splits ∙ ap (λ z. z ++ drop end s) (sym d); ends = run_halts; past = some; within = run.within }
+          let d : decimal v ≡ digits = ap decimal is ∙ decimal-digits_value own digits run.all some zero (omega (arith, is)) in
+          record { good = low; text = run.splits ∙ ap (λ z. z ++ rest) (sym d); ends = run.ends; shorter = omega (arith, simp length-append at (ap length run.splits)) }
+
+-- where the first byte stands that is no digit
+module _ (s : List ℕ) where
+  abbrev FirstOther : ℕ → Type 0
+  FirstOther i = (i < length s) × HoldsAt (λ b. Digit b → ⊥) s i × AllWithin Digit s 0 i
+
+  run_at : (i : ℕ) → AllWithin Digit s 0 i → NoDigit (drop i s) → Run s (take i s) (drop i s)
+  run_at i all ends = record { splits = sym (take-append-drop i s); all = All-from_get_or Digit (take i s) 0 (λ k h. let under : k < i = omega (arith, simp length-take at h) in rw (get_or-take i s k 0 under) (all k 0 (omega arith) under)); ends = ends }
+
+  pub run_to : (o : Option ℕ) → MatchOption o (AllWithin Digit s 0 (length s)) FirstOther → Run s (take (unwrap_or o (length s)) s) (drop (unwrap_or o (length s)) s)
+  run_to None all = run_at (length s) all (rw (drop_all (length s) s (omega arith)) tt)
+  run_to (Some i) first = run_at i first.2 (rw (drop_more s i 0 first.0) (first.1 0))

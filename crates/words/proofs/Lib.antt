@@ -1,4 +1,3 @@
-pub mod Fronts
 pub mod Decimal
 pub mod Signs
 pub mod Stopping

@@ -1,5 +1,7 @@
--- The ten digits, and the longest run of them at a place.
-use Rattle.std.specs.Prelude.{ℕ, ◌<◌, ◌≤◌, List, [], ◌∷◌, length, slice_index}
+-- The ten digits, and the run of them at the head of a text.
+use Rattle.std.specs.Prelude.{◌≡◌, ℕ, ◌^◌, ◌<◌, ◌≤◌, ◌⊎◌, List, [], ◌∷◌, ◌++◌, length, Option, MatchOption}
+use Rattle.std.specs.Str.Parse.{digits_value}
+use Rattle.std.specs.List.{AllByRecursion as All}
 
 pub record Digit (b : ℕ) : Type 0 where
   pub low : 48 ≤ b
@@ -10,8 +12,12 @@ abbrev pub NoDigit : List ℕ → Type 0
 NoDigit [] = Unit {0}
 NoDigit (b ∷ rest) = Digit b → ⊥
 
-pub record Run (s : List ℕ) (at end : ℕ) : Type 0 where
-  pub low : at ≤ end
-  pub within : end ≤ length s
-  pub digits : (k : ℕ) → at ≤ k → k < end → Digit (slice_index s k)
-  pub ends : end < length s → Digit (slice_index s end) → ⊥
+-- the longest run of digits at the head of s, and what follows it
+pub record Run (s digits rest : List ℕ) : Type 0 where
+  pub splits : s ≡ digits ++ rest
+  pub all : All Digit digits
+  pub ends : NoDigit rest
+
+-- the number that digits spell, unless there are none or it does not fit 32 bits
+abbrev pub Spells : List ℕ → Option ℕ → Type 0
+Spells ds r = MatchOption r ((length ds ≡ 0) ⊎ (2 ^ 32 ≤ digits_value 10 ds)) (λ v. (0 < length ds) × (v ≡ digits_value 10 ds))

@@ -2,7 +2,5 @@ pub mod Digits
 pub mod Expecting
 pub mod Forms
 pub mod Readings
-pub mod Letters
 pub mod Wholes
 pub mod Parts
-pub mod Operators

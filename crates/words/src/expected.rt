@@ -1,22 +1,9 @@
-// A given text at a place.
+// A given text at the head of another.
 ghost use Rattle.words.specs.Expecting.{Expects};
 
-// The end of `text`, if it stands at `at`.
-pub fn expect(s: &[u8], at: usize, text: &[u8]) -> Option<usize>
-    ensures { Expects text.now s.now at result }
+// The text behind `prefix`, if it stands at the head.
+pub fn expect<'a>(text: &'a [u8], prefix: &[u8]) -> Option<&'a [u8]>
+    ensures { Expects prefix.now text.now result }
 {
-    if at > s.len() {
-        return None;
-    }
-    if s.len() - at < text.len() {
-        return None;
-    }
-    let mut i = 0;
-    while i < text.len() {
-        if s[at + i] != text[i] {
-            return None;
-        }
-        i += 1;
-    }
-    Some(at + i)
+    text.strip_prefix(prefix)
 }

@@ -1,16 +1,14 @@
-// Reading the words of a model text in place.
+// Reading the words of a model text: a reader answers what stands at the head of a text, and the text behind it.
 #![tactic(auto)]
 
 mod expected;
-mod found;
-mod lexed;
 mod names;
 mod numbers;
-mod operated;
+mod operators;
+mod word;
 
 pub use expected::expect;
-pub use found::{Lexed, NamedAt, NextAt, Numeral, Operated, Signed};
-pub use lexed::word_at;
-pub use names::{name_at, next_at};
-pub use numbers::{minus_at, number_at, signed_at};
-pub use operated::operator_at;
+pub use names::{read_name, read_next_name};
+pub use numbers::{read_minus, read_number, read_signed};
+pub use operators::read_operator;
+pub use word::read_word;

@@ -1,107 +1,65 @@
 // Numbers in decimal.
-ghost use Rattle.std.specs.Prelude.{◌≡◌, ◌+◌, ◌≤◌, min, length};
-ghost use Rattle.std.specs.Str.Parse.{digits_value as value_of};
-ghost use Rattle.std.specs.List.{between};
-ghost use Rattle.words.specs.Digits.{Run};
-ghost use Rattle.words.specs.Readings.{NumberAt, SignedAt, MinusAt};
+ghost use Rattle.std.specs.List.{AllByRecursion as All};
+ghost use Rattle.words.specs.Digits.{Digit, Run, Spells};
+ghost use Rattle.words.specs.Forms.{numbers, signeds, minuses};
+ghost use Rattle.words.specs.Readings.{Reads};
 
 use crate::expected::expect;
-use crate::found::{Numeral, Signed};
 
-fn digits_end(s: &[u8], at: usize) -> usize
-    requires { at ≤ length s.now }
-    ensures { Run s.now at result }
+// The digits at the head of a text, and what follows them.
+fn split_digits(text: &[u8]) -> (&[u8], &[u8])
+    ensures { Run text.now result.0.now result.1.now }
 {
-    let mut i = at;
-    while i < s.len() {
-        if s[i] < b'0' || s[i] > b'9' {
-            return i;
-        }
-        i += 1;
-    }
-    i
+    let end = text.iter().position(|b| !b.is_ascii_digit());
+    text.split_at(end.unwrap_or(text.len()))
 }
 
-fn digits_value(s: &[u8], at: usize, end: usize) -> u64
-    requires run { Run s.now at «end» }
-    requires few { «end» ≤ at + 10 }
-    ensures { result ≡ value_of 10 (between at «end» s.now) }
+// The number that digits spell, if there are any and it fits.
+fn value_of(digits: &[u8]) -> Option<u32>
+    requires { All Digit digits.now }
+    ensures { Spells digits.now result }
 {
-    let mut n: u64 = 0;
-    let mut i = at;
-    while i < end {
-        n = n * 10 + (s[i] - b'0') as u64;
-        i += 1;
-    }
-    n
+    str::from_utf8(digits).ok()?.parse().ok()
 }
 
 // A number up to `max`, with no further digit behind it.
-pub fn number_at(s: &[u8], at: usize, max: u32) -> Option<Numeral>
-    ensures { NumberAt max s.now at result }
+pub fn read_number(text: &[u8], max: u32) -> Option<(u32, &[u8])>
+    ensures { Reads (numbers max) text.now result }
 {
-    if at >= s.len() {
+    let (digits, rest) = split_digits(text);
+    if digits.len() > 1 && digits[0] == b'0' {
         return None;
     }
-    let end = digits_end(s, at);
-    if end == at {
+    let value = value_of(digits)?;
+    if value > max {
         return None;
     }
-    if end - at > 10 {
-        return None;
-    }
-    if s[at] == b'0' && end - at > 1 {
-        return None;
-    }
-    let value = digits_value(s, at, end);
-    if value > max as u64 {
-        return None;
-    }
-    Some(Numeral {
-        value: value as u32,
-        end,
-    })
-}
-
-fn capped(max: u32) -> u32
-    ensures { result ≡ min max 2147483647 }
-{
-    if max > 2147483647 { 2147483647 } else { max }
+    Some((value, rest))
 }
 
 // `7` or `-7`, with no further digit behind it.
-pub fn signed_at(s: &[u8], at: usize, max: u32) -> Option<Signed>
-    ensures { SignedAt max s.now at result }
+pub fn read_signed(text: &[u8], max: u32) -> Option<(i32, &[u8])>
+    ensures { Reads (signeds max) text.now result }
 {
-    let most = capped(max);
-    if let Some(behind) = expect(s, at, b"-") {
-        let n = number_at(s, behind, most)?;
-        if n.value == 0 {
+    let most = max.min(i32::MAX as u32);
+    if let Some(behind) = expect(text, b"-") {
+        let (n, rest) = read_number(behind, most)?;
+        if n == 0 {
             return None;
         }
-        return Some(Signed {
-            value: -(n.value as i32),
-            end: n.end,
-        });
+        return Some((-(n as i32), rest));
     }
-    let n = number_at(s, at, most)?;
-    Some(Signed {
-        value: n.value as i32,
-        end: n.end,
-    })
+    let (n, rest) = read_number(text, most)?;
+    Some((n as i32, rest))
 }
 
 // Behind `(-`: a number above 0 and at most 32768, and a closing parenthesis.
-pub fn minus_at(s: &[u8], at: usize) -> Option<Numeral>
-    ensures { MinusAt s.now at result }
+pub fn read_minus(text: &[u8]) -> Option<(u32, &[u8])>
+    ensures { Reads minuses text.now result }
 {
-    let n = number_at(s, at, 32768)?;
-    if n.value == 0 {
+    let (n, rest) = read_number(text, 32768)?;
+    if n == 0 {
         return None;
     }
-    let end = expect(s, n.end, b")")?;
-    Some(Numeral {
-        value: n.value,
-        end,
-    })
+    Some((n, expect(rest, b")")?))
 }
