@@ -57,9 +57,9 @@ equal_values n permits permission = record {
   permission = permission;
 }
 
--- every wish but a clash, and a clash at the old values that the rule permits
+-- a clash at the old values at which the rule permits it, and every other wish
 abbrev pub permitted : (ℤ → Bool) → Wish → ℤ → Bool
-permitted permits_clash w old = not (is_clash w.status) || permits_clash old
+permitted permits_clash w old = permits_clash old || not (is_clash w.status)
 
 -- what such a rule adds: its number, when it permits a clash, and a guard that says whether each wish is permitted
 pub record Permission (n : ℕ) (permits_clash : ℤ → Bool) (permission : Expr guard) : Type 0 where

@@ -75,7 +75,7 @@ impl<E: EqualValues> Rule for E {
                 Status::Single => w.value(),
                 _ => old,
             },
-            permitted: w.status() != Status::Clash || E::permits_clash(old),
+            permitted: E::permits_clash(old) || w.status() != Status::Clash,
         }
     }
 

@@ -9,7 +9,8 @@ use crate::wish::Wish;
 use expr::{Guard, Term};
 
 // The next value, and whether the step is permitted.
-#[derive(Clone, Copy)]
+// Not an Option: the laws and the model text have the value also where the step is not permitted.
+#[derive(Clone, Copy, Debug, PartialEq, Eq)]
 pub struct Settled {
     pub value: i32,
     pub permitted: bool,

@@ -10,6 +10,7 @@ pub enum Status {
 }
 
 // A wish that is not for one value carries the value 0.
+// Not an enum with a value: expressions read status and value as two variables, so each wish has both.
 #[derive(Clone, Copy, Debug, PartialEq, Eq)]
 pub struct Wish {
     status: Status,

@@ -1,6 +1,7 @@
 -- The rules by which equal values join keep the laws.
 use Rattle.std.specs.Prelude.{◌≡◌, ℕ, Bool, true, false, cond, ◌⊎◌, ℤ, pos, refl}
-use Rattle.std.proofs.Common.{inl, inr, arith, rules}
+use Rattle.std.proofs.Common.{inl, inr, sym, ◌∙◌, arith, rules}
+use Rattle.std.proofs.Math.Bool.{or-true, or-false}
 use Rattle.std.proofs.lemmas.Int.{ints}
 use Rattle.expr.specs.Expr.{guard, Expr, eval, tested}
 use Rattle.expr.specs.declared.code.Order.TheVariants.{Eq}
@@ -57,9 +58,9 @@ says_own (is_single v) old = refl
 says_own is_clash_shape old = refl
 
 says_permitted : {n : ℕ} {permits : ℤ → Bool} {e : Expr guard} → Permission n permits e → {w : Wish} → Shape w → (old : ℤ) → eval (of_wish w old) e ≡ permitted permits w old
-says_permitted p is_none old = p.says_none old
-says_permitted p (is_single v) old = p.says_single v old
-says_permitted p is_clash_shape old = p.says_clash old
+says_permitted {permits = permits} p is_none old = p.says_none old ∙ sym (or-true (permits old))
+says_permitted {permits = permits} p (is_single v) old = p.says_single v old ∙ sym (or-true (permits old))
+says_permitted {permits = permits} p is_clash_shape old = p.says_clash old ∙ sym (or-false (permits old))
 
 pub lawful_equal_values : {n : ℕ} {permits : ℤ → Bool} {e : Expr guard} → Permission n permits e → Lawful (equal_values n (permitted permits) e)
 lawful_equal_values p = record {
@@ -72,8 +73,8 @@ lawful_equal_values p = record {
   none_settles = λ old. refl;
   single_settles = λ v old. refl;
   clash_settles = λ old. refl;
-  none_permitted = λ old. refl;
-  single_permitted = λ v old. refl;
+  none_permitted = λ old. or-true _;
+  single_permitted = λ v old. or-true _;
   status_plain = search rules;
   value_plain = search rules;
   settled_plain = search rules;
