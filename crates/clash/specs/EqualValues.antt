@@ -1,10 +1,10 @@
 -- Rules by which equal values join, unequal ones clash, and a clash settles to the old value.
-use Rattle.std.specs.Prelude.{ℕ, Bool, cond, ℤ, pos}
-use Rattle.expr.specs.Expr.{guard, term, Expr, join, test, literal, variable, branch, tested}
+use Rattle.std.specs.Prelude.{◌≡◌, ℕ, ◌≤◌, Bool, true, cond, not, ◌||◌, ℤ, pos}
+use Rattle.expr.specs.Expr.{guard, term, Expr, join, test, literal, variable, branch, tested, eval}
 use Rattle.expr.specs.declared.code.Joint.TheVariants.{And}
 use Rattle.expr.specs.declared.code.Order.TheVariants.{Eq}
-use Rattle.clash.specs.Rules.{ClashRule}
-use Rattle.clash.specs.Wishes.{Wish, Status, clash}
+use Rattle.clash.specs.Rules.{ClashRule, Plain, of_wish}
+use Rattle.clash.specs.Wishes.{Wish, Status, none, single, clash, is_clash}
 use Rattle.clash.specs.declared.wish.Status.TheVariants.{Nothing, Single, Clash}
 
 abbrev pub beside : Status → Status → Wish → Wish → Wish
@@ -46,13 +46,26 @@ abbrev pub own_value : Expr term
 own_value = branch (is 0 1) (variable 1) (variable 2)
 
 abbrev pub equal_values : ℕ → (Wish → ℤ → Bool) → Expr guard → ClashRule
-equal_values n permitted permits-expr = record {
+equal_values n permits permission = record {
   number = n;
   joins = joins_equal;
   settles = settles_own;
-  permits = permitted;
+  permits = permits;
   joined_status = equal_status;
   joined_value = equal_value;
   settled_value = own_value;
-  permission = permits-expr;
+  permission = permission;
 }
+
+-- a clash at the old values at which the rule permits it, and every other wish
+abbrev pub permitted : (ℤ → Bool) → Wish → ℤ → Bool
+permitted permits_clash w old = permits_clash old || not (is_clash w.status)
+
+-- what such a rule adds: its number, when it permits a clash, and a guard that says whether each wish is permitted
+pub record Permission (n : ℕ) (permits_clash : ℤ → Bool) (permission : Expr guard) : Type 0 where
+  pub number_low : 1 ≤ n
+  pub number_high : n ≤ 999
+  pub plain : Plain 3 permission
+  pub says_none : (old : ℤ) → eval (of_wish none old) permission ≡ true
+  pub says_single : (v old : ℤ) → eval (of_wish (single v) old) permission ≡ true
+  pub says_clash : (old : ℤ) → eval (of_wish clash old) permission ≡ permits_clash old

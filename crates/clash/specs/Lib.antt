@@ -3,7 +3,4 @@ pub mod Wishes
 pub mod Rules
 pub mod Orders
 pub mod EqualValues
-pub mod EqualValuesLemmas
-pub mod Plain
-pub mod Shapes
-pub mod ForbidClashRuleLemmas
+pub mod Laws

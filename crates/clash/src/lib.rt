@@ -2,15 +2,12 @@
 #![tactic(auto)]
 
 mod equal_values;
-mod expressions;
 mod forbid_clash;
 mod keep_on_clash;
 mod rule;
 mod wish;
 
-pub use expressions::{
-    joined_status_term, joined_value_term, permission_guard, settled_value_term,
-};
+pub use equal_values::EqualValues;
 pub use forbid_clash::ForbidClash;
 pub use keep_on_clash::KeepOnClash;
 pub use rule::{Rule, Settled, join_all};

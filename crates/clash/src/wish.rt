@@ -2,9 +2,7 @@
 ghost use Rattle.std.specs.Prelude.{◌≡◌, false, pos};
 ghost use Rattle.clash.specs.Carries.{carries};
 
-mod parts;
-
-#[derive(Clone, Copy)]
+#[derive(Clone, Copy, Debug, PartialEq, Eq)]
 pub enum Status {
     Nothing,
     Single,
@@ -12,9 +10,53 @@ pub enum Status {
 }
 
 // A wish that is not for one value carries the value 0.
-#[derive(Clone, Copy)]
+// Not an enum with a value: expressions read status and value as two variables, so each wish has both.
+#[derive(Clone, Copy, Debug, PartialEq, Eq)]
 pub struct Wish {
     status: Status,
     value: i32,
     ghost canonical: { (carries status ≡ false → value ≡ pos 0) },
+}
+
+impl Wish {
+    ghost use Rattle.clash.specs.Wishes.{none, single, clash};
+
+    pub fn none() -> Self
+        ensures { result ≡ none }
+    {
+        Self {
+            status: Status::Nothing,
+            value: 0,
+        }
+    }
+
+    pub fn of(value: i32) -> Self
+        ensures { result ≡ single value }
+    {
+        Self {
+            status: Status::Single,
+            value,
+        }
+    }
+
+    pub fn clash() -> Self
+        ensures { result ≡ clash }
+    {
+        Self {
+            status: Status::Clash,
+            value: 0,
+        }
+    }
+
+    pub fn status(self) -> Status
+        ensures { result ≡ self.status }
+    {
+        self.status
+    }
+
+    pub fn value(self) -> i32
+        ensures { result ≡ self.value }
+    {
+        self.value
+    }
 }

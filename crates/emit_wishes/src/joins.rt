@@ -7,7 +7,7 @@ ghost use Rattle.model_text.specs.Words.{name_text};
 ghost use Rattle.emit.specs.Texts.{join_text, settle_text};
 ghost use Rattle.emit_wishes.specs.Lines.{defined};
 
-use clash::{Rule, joined_status_term, joined_value_term, permission_guard, settled_value_term};
+use clash::Rule;
 use emit::{Joining, Settling, begin_definition, put_name};
 use expr::{Expression, Guard, Names, Term};
 use model_text::{Double, Name, Single};
@@ -30,6 +30,7 @@ fn put_term<S: Sink, N: Names>(s: &mut S, x: Name, body: &Term, names: &N)
     put_text(s, b";\n");
 }
 
+// Beside `put_term`: one function for both would take a trait over expr's two types, longer than this.
 fn put_guard<S: Sink, N: Names>(s: &mut S, x: Name, body: &Guard, names: &N)
     ensures { (e : Expr guard) → Coded body.now.code.now e → s.new ≡ fold S.Sink.step s.old (defined x (text_of (N.Names.name names.now) e)) }
 {
@@ -53,10 +54,8 @@ pub fn put_join<S: Sink, R: Rule>(s: &mut S, i: u8, k: u8)
         variable: i,
         automaton: k - 1,
     };
-    let joined_status = joined_status_term::<R>();
-    let joined_value = joined_value_term::<R>();
-    put_term(s, status, &joined_status, &names);
-    put_term(s, value, &joined_value, &names);
+    put_term(s, status, &R::joined_status(), &names);
+    put_term(s, value, &R::joined_value(), &names);
 }
 
 // How the wishes for variable `i` settle, where automaton `k` is the last.
@@ -70,13 +69,13 @@ pub fn put_settle<S: Sink, R: Rule>(s: &mut S, i: u8, k: u8)
     put_term(
         s,
         Name::One(Single::SettledValue, i as u16),
-        &settled_value_term::<R>(),
+        &R::settled_value(),
         &names,
     );
     put_guard(
         s,
         Name::One(Single::Permission, i as u16),
-        &permission_guard::<R>(),
+        &R::permission(),
         &names,
     );
 }

@@ -1,4 +1,4 @@
-use Rattle.std.proofs.Common.{◌-◌, ◌<◌, [], ◌∷◌, fold, ap, ◌∙◌, arith}
+use Rattle.std.proofs.Common.{◌-◌, ◌<◌, [], ◌∷◌, fold, ap, ◌∙◌, arith, rules}
 use Rattle.model_text.specs.declared.words.Double.TheVariants.{WishStatus, WishValue, JoinedStatus, JoinedValue}
 use Rattle.model_text.specs.declared.words.Name.TheVariants as N
 use Rattle.translation.specs.Written.{name, written, join_name}
@@ -30,7 +30,7 @@ returns g c =
     let later : 0 < k = omega arith in
     sent_as f s _ (definition_text x (written (join_name i (k - 1)) R.joined_status) ∷ []) (definition_text y (written (join_name i (k - 1)) R.joined_value)) (join_text R i k) (
       c.put_term.new.s,
-      c.put_term.ensures R.joined_status c.joined_status_term-joined_status.ensures ∙ ap (λ z. fold f s (defined x z)) (text_written (join_name i (k - 1)) R.joined_status),
-      c.put_term-2.ensures R.joined_value c.joined_value_term-joined_value.ensures ∙ ap (λ z. fold f c.put_term.new.s (defined y z)) (text_written (join_name i (k - 1)) R.joined_value),
+      c.put_term.ensures R.joined_status (search rules) ∙ ap (λ z. fold f s (defined x z)) (text_written (join_name i (k - 1)) R.joined_status),
+      c.put_term-2.ensures R.joined_value (search rules) ∙ ap (λ z. fold f c.put_term.new.s (defined y z)) (text_written (join_name i (k - 1)) R.joined_value),
     )
     (join_later R i k later)

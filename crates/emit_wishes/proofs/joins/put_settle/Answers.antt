@@ -1,4 +1,4 @@
-use Rattle.std.proofs.Common.{[], ◌∷◌, fold, ap, ◌∙◌}
+use Rattle.std.proofs.Common.{[], ◌∷◌, fold, ap, ◌∙◌, rules}
 use Rattle.model_text.specs.declared.words.Single.TheVariants.{SettledValue, Permission}
 use Rattle.model_text.specs.declared.words.Name.TheVariants as N
 use Rattle.translation.specs.Written.{written, settle_name}
@@ -19,6 +19,6 @@ returns g c =
     let y = N.One Permission i in
     sent f s _ (definition_text x (written names R.settled_value) ∷ []) (definition_text y (written names R.permission)) (
       c.put_term.new.s,
-      c.put_term.ensures R.settled_value c.settled_value_term.ensures ∙ ap (λ z. fold f s (defined x z)) (text_written names R.settled_value),
-      c.put_guard.ensures R.permission c.permission_guard.ensures ∙ ap (λ z. fold f c.put_term.new.s (defined y z)) (text_written names R.permission),
+      c.put_term.ensures R.settled_value (search rules) ∙ ap (λ z. fold f s (defined x z)) (text_written names R.settled_value),
+      c.put_guard.ensures R.permission (search rules) ∙ ap (λ z. fold f c.put_term.new.s (defined y z)) (text_written names R.permission),
     )

@@ -1,6 +1,6 @@
 -- A wish is known by its status and its value, so it is one of the three.
 use Rattle.std.specs.Prelude.{◌≡◌, false, ℤ, pos, refl}
-use Rattle.std.proofs.Common.{sym, subst, ◌∙◌}
+use Rattle.std.proofs.Common.{sym, subst}
 use mathlib.Core.HLevel.{is_prop→PathP, →_prop}
 use Rattle.std.proofs.Math.IntN.{ℤ_set}
 use Rattle.clash.specs.Carries.{carries}
@@ -20,10 +20,10 @@ pub data Shape : Wish → Type 0 where
   is_single : (v : ℤ) → Shape (single v)
   is_clash_shape : Shape clash
 
-shaped : (s : Status) (v : ℤ) (h : carries s ≡ false → v ≡ pos 0) (w : Wish) → w.status ≡ s → w.value ≡ v → Shape w
-shaped Nothing v h w p q = subst Shape (sym (wish_same w none p (q ∙ h refl))) is_none
-shaped Single v h w p q = subst Shape (sym (wish_same w (single v) p q)) (is_single v)
-shaped Clash v h w p q = subst Shape (sym (wish_same w clash p (q ∙ h refl))) is_clash_shape
+shaped : (s : Status) (v : ℤ) (h : carries s ≡ false → v ≡ pos 0) → Shape (record { status = s; value = v; canonical = h })
+shaped Nothing v h = subst Shape (wish_same none _ refl (sym (h refl))) is_none
+shaped Single v h = subst Shape (wish_same (single v) _ refl refl) (is_single v)
+shaped Clash v h = subst Shape (wish_same clash _ refl (sym (h refl))) is_clash_shape
 
 pub shape : (w : Wish) → Shape w
-shape w = shaped w.status w.value w.canonical w refl refl
+shape w = shaped w.status w.value w.canonical

@@ -1,6 +1,0 @@
-use Rattle.std.proofs.Common.{refl}
-use Rattle.clash.specs.Shapes.{wish_same}
-use Rattle.clash.proofs.wish.Wish.none.Goals as goal
-
-pub returns : goal.returns
-returns c = wish_same _ _ refl refl
