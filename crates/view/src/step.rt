@@ -37,7 +37,8 @@ fn update_at(file: &[u8], at: usize) -> Update<'_>
 impl<'a> Updates<'a> {
     // The first that is left and those after it.
     pub fn split_first(&self) -> Option<(Update<'a>, Updates<'a>)>
-        ensures { (us : List Assignment) → UpdatesOf self.now us → MatchOption result (us ≡ []) (λ p. FirstAndRest UpdateShows UpdatesOf us p.0 p.1) }
+        ensures first { (us : List Assignment) → UpdatesOf self.now us → MatchOption result (us ≡ []) (λ p. FirstAndRest UpdateShows UpdatesOf us p.0 p.1) }
+        ensures left { MatchOption result (self.now.left ≡ 0) (λ p. p.1.left + 1 ≡ self.now.left) }
     {
         if self.left == 0 {
             return None;
@@ -112,7 +113,8 @@ fn row_at(file: &[u8], at: usize) -> Transition<'_>
 impl<'a> Rows<'a> {
     // The first that is left and those after it.
     pub fn split_first(&self) -> Option<(Transition<'a>, Rows<'a>)>
-        ensures { (rs : List Row) → RowsOf self.now rs → MatchOption result (rs ≡ []) (λ p. FirstAndRest TransitionShows RowsOf rs p.0 p.1) }
+        ensures first { (rs : List Row) → RowsOf self.now rs → MatchOption result (rs ≡ []) (λ p. FirstAndRest TransitionShows RowsOf rs p.0 p.1) }
+        ensures left { MatchOption result (self.now.left ≡ 0) (λ p. p.1.left + 1 ≡ self.now.left) }
     {
         if self.left == 0 {
             return None;

@@ -4,8 +4,8 @@ use Rattle.view.proofs.Many.{none_left, front_left}
 use Rattle.view.proofs.RowParts.{row_standing}
 use Rattle.view.proofs.rows.Rows.split_first.Goals as goal
 
-pub returns-then-self-eq0 : goal.returns-then-self-eq0
-returns-then-self-eq0 c rs h = none_left rs h c.if-self-eq0.true
+pub returns-then-self-eq0-clause-first : goal.returns-then-self-eq0-clause-first
+returns-then-self-eq0-clause-first c rs h = none_left rs h c.if-self-eq0.true
 
 pub row_at-row-requires : goal.row_at-row-requires
 row_at-row-requires c = row_standing _ _ _ c.args.self.now.stand c.if-self-eq0.false
@@ -18,8 +18,8 @@ invariant_of-rest c = record {
       (f.tail, f.rest _ (c.end.ensures _ (c.row_at-row.ensures.shows _ f.first).updates ∙ c.row_at-row.ensures.last _ f.first)));
 }
 
-pub returns : goal.returns
-returns c rs h =
+pub returns-clause-first : goal.returns-clause-first
+returns-clause-first c rs h =
     let f = front_left rs h c.if-self-eq0.false in
     let shows = c.row_at-row.ensures.shows _ f.first in
     record { head = f.head; tail = f.tail; are = f.are; first = shows; rest = f.rest _ (c.end.ensures _ shows.updates ∙ c.row_at-row.ensures.last _ f.first) }
