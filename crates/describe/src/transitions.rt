@@ -9,13 +9,10 @@ struct UpdatesText<'a>(Updates<'a>);
 
 impl fmt::Display for UpdatesText<'_> {
     fn fmt<W: fmt::Write>(&self, f: &mut fmt::Formatter<W>) -> fmt::Result {
-        let mut updates = self.0;
-        for _ in 0..self.0.left {
-            let update = updates.first();
+        for update in self.0 {
             let variable = update.variable;
             let value = TermText(update.value);
             write!(f, "; u{variable} := {value}")?;
-            updates = updates.rest();
         }
         Ok(())
     }
@@ -42,11 +39,9 @@ pub struct RowsText<'a>(pub Rows<'a>);
 
 impl fmt::Display for RowsText<'_> {
     fn fmt<W: fmt::Write>(&self, f: &mut fmt::Formatter<W>) -> fmt::Result {
-        let mut rows = self.0;
         let mut owner = None;
         let mut choice: u16 = 0;
-        for _ in 0..self.0.left {
-            let transition = rows.first();
+        for transition in self.0 {
             let automaton = transition.owner;
             if owner != Some(automaton) {
                 writeln!(f, "  automaton {automaton}")?;
@@ -56,7 +51,6 @@ impl fmt::Display for RowsText<'_> {
             choice += 1;
             let line = TransitionText(transition);
             writeln!(f, "    {choice}: {line}")?;
-            rows = rows.rest();
         }
         Ok(())
     }

@@ -1,5 +1,5 @@
 -- The rows of one automaton in front of those of the automata after it.
-use Rattle.std.proofs.Common.{◌≡◌, ℕ, zero, suc, ◌+◌, ◌<◌, ◌≤◌, true, false, List, [], ◌∷◌, ◌++◌, length, get_or, take, drop, sym, refl, ap, ◌∙◌, subst, inl, inr, arith, length-append}
+use Rattle.std.proofs.Common.{◌≡◌, ℕ, zero, suc, ◌+◌, ◌<◌, ◌≤◌, Bool, true, false, eqb, None, Some, List, [], ◌∷◌, ◌++◌, length, take, drop, sym, refl, ap, ◌∙◌, subst, inl, inr, arith}
 use Rattle.std.specs.List.{flat_map}
 use Rattle.std.proofs.lemmas.List.{length-map, drop_at, drop-append-le, drop-drop, drop-map, drop_more, take-append-drop, length-take-le, take_at}
 use Rattle.std.proofs.lemmas.Bool.{cases_lt, eq-eqb, ne_eqb, true≢false}
@@ -8,10 +8,18 @@ use Rattle.scan.proofs.Standing.{stands_split}
 use Rattle.system.specs.System.{Transition, Automaton, Row, rows_from}
 use Rattle.system.specs.Formed.{All}
 use Rattle.system.specs.Encode.{row_bytes}
-use Rattle.view.specs.Walk.{RowsAt, RowFine, idle_row}
-use Rattle.translation.specs.Systems.{idle_transition, transition}
-use Rattle.emit.specs.Own.{own_rows, owned_by}
+use Rattle.view.specs.declared.parts.Transition.{Transition as Read}
+use Rattle.view.specs.declared.rows.Rows.{Rows}
+use Rattle.view.specs.Walk.{RowsAt, RowFine}
+use Rattle.view.specs.Shown.{RowsOf, NextRow}
+use Rattle.translation.specs.Systems.{idle_transition}
+use Rattle.emit.specs.Own.{own_rows}
 use Rattle.emit.proofs.Sent.{joined-append}
+
+-- there is a first row, and it is automaton k's
+abbrev pub owned_by : ℕ → List Row → Bool
+owned_by k [] = false
+owned_by k (r ∷ rs) = eqb r.owner k
 
 -- rows of another automaton in front of rows that are none of automaton k's
 others : (k j : ℕ) (ts : List Transition) (rs : List Row) → k < j → owned_by k rs ≡ false → owned_by k (own_rows j ts ++ rs) ≡ false
@@ -33,19 +41,19 @@ own-past k ts rs = drop_at (own_rows k ts) rs (length ts) (length-map ts _)
 
 -- so many rows of automaton k were seen, and the next is one of it or not
 module _ (k n : ℕ) (A : Automaton) (As : List Automaton) (low : n ≤ length A.transitions) where
-  pub own_more : true ≡ owned_by k (drop n (rows_from k (A ∷ As))) → n + 1 ≤ length A.transitions
+  pub own_more : owned_by k (drop n (rows_from k (A ∷ As))) ≡ true → n + 1 ≤ length A.transitions
   own_more is =
       elim (cases_lt n (length A.transitions)) [
         | inl under ↦ omega arith
         | inr past ↦
             let all : n ≡ length A.transitions = omega arith in
-            absurd (true≢false (is ∙ ap (λ i. owned_by k (drop i (rows_from k (A ∷ As)))) all ∙ ap (owned_by k) (own-past k A.transitions (rows_from (suc k) As)) ∙ later k (suc k) As (omega arith)))
+            absurd (true≢false (sym is ∙ ap (λ i. owned_by k (drop i (rows_from k (A ∷ As)))) all ∙ ap (owned_by k) (own-past k A.transitions (rows_from (suc k) As)) ∙ later k (suc k) As (omega arith)))
       ]
 
-  pub own_all : false ≡ owned_by k (drop n (rows_from k (A ∷ As))) → n ≡ length A.transitions
+  own_all : owned_by k (drop n (rows_from k (A ∷ As))) ≡ false → n ≡ length A.transitions
   own_all none =
       elim (cases_lt n (length A.transitions)) [
-        | inl under ↦ absurd (true≢false (sym (own_first k n A.transitions (rows_from (suc k) As) under) ∙ sym none))
+        | inl under ↦ absurd (true≢false (sym (own_first k n A.transitions (rows_from (suc k) As) under) ∙ none))
         | inr past ↦ omega arith
       ]
 
@@ -65,25 +73,39 @@ first_rows s at left n rs h low =
     }
 
 module _ (k : ℕ) (A : Automaton) (As : List Automaton) where
-  pub rows_long : length A.transitions ≤ length (rows_from k (A ∷ As))
-  rows_long =
-      let e : length (rows_from k (A ∷ As)) ≡ length (own_rows k A.transitions) + length (rows_from (suc k) As) = length-append (own_rows k A.transitions) (rows_from (suc k) As) in
-      let m : length (own_rows k A.transitions) ≡ length A.transitions = length-map A.transitions _ in
-      omega arith
-
-  pub own_front : (n : ℕ) → n ≡ length A.transitions → take n (rows_from k (A ∷ As)) ≡ own_rows k A.transitions
+  own_front : (n : ℕ) → n ≡ length A.transitions → take n (rows_from k (A ∷ As)) ≡ own_rows k A.transitions
   own_front n e = take_at (own_rows k A.transitions) (rows_from (suc k) As) n (length-map A.transitions _ ∙ sym e)
 
-  pub own_after : (n : ℕ) → n ≡ length A.transitions → drop n (rows_from k (A ∷ As)) ≡ rows_from (suc k) As
+  own_after : (n : ℕ) → n ≡ length A.transitions → drop n (rows_from k (A ∷ As)) ≡ rows_from (suc k) As
   own_after n e = ap (λ i. drop i (rows_from k (A ∷ As))) e ∙ own-past k A.transitions (rows_from (suc k) As)
 
--- the row at a place among those of automaton k, and those after it
-module _ (k j : ℕ) (ts : List Transition) where
-  pub own_here : j < length ts → get_or (own_rows k (drop j ts)) 0 idle_row ≡ record { owner = k; transition = transition ts j }
-  own_here h = ap (λ zs. get_or (own_rows k zs) 0 idle_row) (drop_more ts j idle_transition h)
+-- the first n rows were seen, all of automaton k, and these are left
+pub record Seen (rows rest : Rows) (k n : ℕ) : Type 0 where
+  pub within : rest.left + n ≡ rows.left
+  pub after : (rs : List Row) → RowsOf rows rs → RowsOf rest (drop n rs)
+  pub own : (A : Automaton) (As : List Automaton) → RowsOf rows (rows_from k (A ∷ As)) → n ≤ length A.transitions
 
-  pub own_next : drop 1 (own_rows k (drop j ts)) ≡ own_rows k (drop (j + 1) ts)
-  own_next = drop-map _ 1 (drop j ts) ∙ ap (own_rows k) (drop-drop 1 j ts)
+module _ (rows rest : Rows) (k n : ℕ) (seen : Seen rows rest k n) where
+  pub seen_more : (x : Read) (others : Rows) → NextRow rest (Some x) others → others.left + 1 ≡ rest.left → x.owner ≡ k → Seen rows others k (n + 1)
+  seen_more x others next fewer owner = record {
+    within = omega (arith, seen.within);
+    after = λ rs h. let f = next _ (seen.after rs h) in subst (RowsOf others) (sym (ap (drop 1) f.are) ∙ drop-drop 1 n rs) f.rest;
+    own = λ A As h.
+        let f = next _ (seen.after _ h) in
+        own_more k n A As (seen.own A As h) (ap (owned_by k) f.are ∙ eq-eqb f.head.owner k (sym f.first.owner ∙ owner));
+  }
 
-  pub own_length : (s : List ℕ) (at left : ℕ) → RowsAt s at left (own_rows k ts) → length ts ≡ left
-  own_length s at left h = sym (length-map ts (λ t. record { owner = k; transition = t })) ∙ h.count
+  -- no more of them follow
+  abbrev pub Past : Type 0
+  Past = (rs : List Row) → RowsOf rest rs → owned_by k rs ≡ false
+
+  pub past_none : NextRow rest None rest → Past
+  past_none next rs h = ap (owned_by k) (next rs h)
+
+  pub past_other : (x : Read) (others : Rows) → NextRow rest (Some x) others → (x.owner ≡ k → ⊥) → Past
+  past_other x others next other rs h = let f = next rs h in ap (owned_by k) f.are ∙ ne_eqb f.head.owner k (λ e. other (f.first.owner ∙ e))
+
+  pub seen_all : Past → (A : Automaton) (As : List Automaton) → RowsOf rows (rows_from k (A ∷ As)) → RowsAt rows.file.now rows.at n (own_rows k A.transitions) × RowsOf rest (rows_from (suc k) As)
+  seen_all past A As h =
+      let all = own_all k n A As (seen.own A As h) (past _ (seen.after _ h)) in
+      (subst (RowsAt rows.file.now rows.at n) (own_front k A As n all) (first_rows rows.file.now rows.at rows.left n _ h (omega (arith, seen.within))), subst (RowsOf rest) (own_after k A As n all) (seen.after _ h))

@@ -1,8 +1,7 @@
 -- The text of a test for each event of an alphabet: parentheses first, then test after test.
-use Rattle.std.proofs.Common.{◌≡◌, ℕ, zero, suc, ◌+◌, List, [], ◌∷◌, ◌++◌, length, replicate, fold, sym, refl, ap, ◌∙◌, append_assoc, add-one}
+use Rattle.std.proofs.Common.{◌≡◌, ℕ, zero, suc, List, [], ◌∷◌, ◌++◌, length, replicate, sym, refl, ap, ◌∙◌, append_assoc}
 use Rattle.std.specs.List.{flat_map}
 use Rattle.std.proofs.lemmas.List.{append-nil}
-use Rattle.std.proofs.lemmas.List.Sums.{fold_push}
 use Rattle.model_text.specs.declared.words.Name.TheVariants as N
 use Rattle.model_text.specs.Trees.{expr, Tree, print}
 use Rattle.translation.specs.Written.{is_not}
@@ -13,11 +12,6 @@ use Rattle.emit_choices.specs.Further.{further}
 repeated : (n b : ℕ) (xs : List ℕ) → replicate n b ++ (b ∷ xs) ≡ b ∷ (replicate n b ++ xs)
 repeated zero b xs = refl
 repeated (suc n) b xs = ap (λ z. b ∷ z) (repeated n b xs)
-
-pub once_more : {S : Type 0} (f : S → ℕ → S) (s : S) (n b : ℕ) → f (fold f s (replicate n b)) b ≡ fold f s (replicate (n + 1) b)
-once_more f s n b =
-    sym (fold_push f s (replicate n b) b)
-    ∙ ap (fold f s) (repeated n b [] ∙ ap (λ z. b ∷ z) (append-nil (replicate n b)) ∙ ap (λ k. replicate k b) (sym (add-one n)))
 
 none-text : (g : Tree expr) (es : List ℕ) → print (none_of g es) ≡ replicate (length es) 40 ++ (print g ++ flat_map further es)
 none-text g [] = sym (append-nil (print g))

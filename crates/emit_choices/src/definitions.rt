@@ -7,12 +7,14 @@ ghost use Rattle.translation.specs.Translate.{taken};
 ghost use Rattle.emit.specs.Texts.{stay_text, taken_text, choices_text};
 
 use crate::outside::put_outside;
-use emit::{AutomatonText, TransitionText, begin_definition, put_compared, put_transitions};
+use emit::{
+    Automaton, AutomatonText, TransitionText, begin_definition, put_compared, put_transitions,
+};
 use expr::Numbered;
 use expr::code::Order;
 use model_text::{Double, Name, Single};
 use sinks::{Sink, put_text};
-use view::{Head, Rows, Transition};
+use view::Transition;
 
 // The automaton is where the transition begins, its event happens, and its guard holds.
 fn put_taken<S: Sink>(s: &mut S, k: u8, t: &Transition)
@@ -65,8 +67,9 @@ pub struct ChoiceDefinitions;
 impl AutomatonText for ChoiceDefinitions {
     ghost text = { λ _ k A. choices_text k A };
 
-    fn put<S: Sink>(&self, s: &mut S, k: u8, head: &Head, rows: &Rows) {
-        put_stay(s, k, head.alphabet);
-        put_transitions(s, rows, &ChoiceDefinition { automaton: k });
+    fn put<S: Sink>(&self, s: &mut S, automaton: &Automaton) {
+        let k = automaton.number;
+        put_stay(s, k, automaton.head.alphabet);
+        put_transitions(s, &automaton.rows, &ChoiceDefinition { automaton: k });
     }
 }

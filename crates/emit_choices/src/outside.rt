@@ -34,11 +34,11 @@ fn put_further<S: Sink>(s: &mut S, events: &[u8])
 pub fn put_outside<S: Sink>(s: &mut S, alphabet: &[u8])
     ensures { s.new ≡ fold S.Sink.step s.old (print (outside alphabet.now)) }
 {
-    if alphabet.len() == 0 {
+    let Some((first, others)) = alphabet.split_first() else {
         put_text(s, b"TRUE");
         return;
-    }
-    put_opening(s, alphabet.len() - 1);
-    put_compared(s, Name::Event, Order::Ne, alphabet[0] as u16);
-    put_further(s, &alphabet[1..]);
+    };
+    put_opening(s, others.len());
+    put_compared(s, Name::Event, Order::Ne, *first as u16);
+    put_further(s, others);
 }

@@ -1,13 +1,16 @@
 // Where the choices of an automaton lead.
 ghost use Rattle.std.specs.Prelude.{◌≡◌, ◌++◌, codes, fold};
-ghost use Rattle.emit.specs.Texts.{lead_text, leads_text};
+ghost use Rattle.model_text.specs.declared.words.Single.TheVariants.{Location};
+ghost use Rattle.model_text.specs.declared.words.Name.TheVariants as N;
+ghost use Rattle.translation.specs.Written.{name};
+ghost use Rattle.emit.specs.Texts.{step_text, leads, lead_text, leads_text};
 ghost use Rattle.emit_choices.specs.Further.{leads_to};
 
-use emit::{AutomatonText, TransitionText, put_compared, put_name, put_transitions};
+use emit::{Automaton, AutomatonText, TransitionText, put_compared, put_name, put_transitions};
 use expr::code::Order;
 use model_text::{Double, Name, Single};
 use sinks::{Sink, put_number, put_text};
-use view::{Head, Rows, Transition};
+use view::Transition;
 
 // The line of a choice, up to where it leads.
 fn begin_step<S: Sink>(s: &mut S, k: u8, choice: u16)
@@ -20,6 +23,15 @@ fn begin_step<S: Sink>(s: &mut S, k: u8, choice: u16)
     put_text(s, b" & (next(");
     put_name(s, Name::One(Single::Location, k as u16));
     put_text(s, b") = ");
+}
+
+// Choice 0 leads to where the automaton is.
+fn put_stay<S: Sink>(s: &mut S, k: u8)
+    ensures { s.new ≡ fold S.Sink.step s.old (step_text (leads k 0 (name (N.One Location k)))) }
+{
+    begin_step(s, k, 0);
+    put_name(s, Name::One(Single::Location, k as u16));
+    put_text(s, b")));\n");
 }
 
 #[derive(Drop)]
@@ -43,10 +55,9 @@ pub struct ChoiceSteps;
 impl AutomatonText for ChoiceSteps {
     ghost text = { λ _ k A. leads_text k A };
 
-    fn put<S: Sink>(&self, s: &mut S, k: u8, _head: &Head, rows: &Rows) {
-        begin_step(s, k, 0);
-        put_name(s, Name::One(Single::Location, k as u16));
-        put_text(s, b")));\n");
-        put_transitions(s, rows, &ChoiceStep { automaton: k });
+    fn put<S: Sink>(&self, s: &mut S, automaton: &Automaton) {
+        let k = automaton.number;
+        put_stay(s, k);
+        put_transitions(s, &automaton.rows, &ChoiceStep { automaton: k });
     }
 }

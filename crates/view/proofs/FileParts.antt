@@ -1,7 +1,5 @@
 -- The parts of a system in its file, by their numbers.
 use Rattle.std.proofs.Common.{◌≡◌, ℕ, ◌+◌, ◌*◌, ◌<◌, ◌≤◌, List, [], ◌++◌, length, get_or, pos, sym, refl, ap, ◌∙◌, subst, arith}
-use mathlib.Core.Logic.{∥∥₁_elim}
-use native.Mathlib.Bridge.{le_prop}
 use Rattle.std.proofs.lemmas.List.{append-nil, get_or_default}
 use Rattle.std.specs.List.{flat_map}
 use Rattle.scan.specs.Stands.{Stands}
@@ -32,7 +30,7 @@ module _ (s : List ℕ) (l : Layout) (S : System) (h : Shows s l S) where
   parts = stands_split s 0 (events_bytes S.kinds) (variables_bytes S.variables ++ later) (stands_front s 0 (encode S) [] (sym (append-nil (encode S) ∙ h.bytes)))
 
   -- events
-  kind_stands : (e : ℕ) (d : EventKind) → e < l.events → (e + 1 < length s) × (get_or s (e + 1) 0 ≡ kind_byte (get_or S.kinds e d))
+  pub kind_stands : (e : ℕ) (d : EventKind) → e < l.events → (e + 1 < length s) × (get_or s (e + 1) 0 ≡ kind_byte (get_or S.kinds e d))
   kind_stands e d under =
       let all = (stands_head s 0 _ _ parts.0).2 in
       let one = piece_stands kind_bytes 1 (λ k. refl) s (0 + 1) S.kinds e d (omega (arith, h.events)) all in
@@ -55,7 +53,7 @@ module _ (s : List ℕ) (l : Layout) (S : System) (h : Shows s l S) where
   pub variable_formed : (i : ℕ) (d : Variable) → i < l.variables → VariableFormed (get_or S.variables i d)
   variable_formed i d under = all_at VariableFormed S.variables h.formed.variables i d (omega (arith, h.variables))
 
-  variable_within : (i : ℕ) → i < l.variables → l.events + 2 + 10 * i + 10 ≤ length s
+  pub variable_within : (i : ℕ) → i < l.variables → l.events + 2 + 10 * i + 10 ≤ length s
   variable_within i under =
       let d : Variable = record { low = pos 0; high = pos 0; start = pos 0; marked_low = pos 0; marked_high = pos 0 } in
       let here = variable_stands i d under in
@@ -68,22 +66,12 @@ module _ (s : List ℕ) (l : Layout) (S : System) (h : Shows s l S) where
       let within : k < length S.automata = omega (arith, h.automata) in
       subst (λ A. Stands s (get_or l.heads k 0) (head_bytes A)) (get_or_default S.automata k idle d within) (h.heads.begin k within)
 
+  pub few_heads : l.automata ≤ 12
+  few_heads = omega (arith, h.automata, h.formed.few_automata)
+
+  pub row_fits : (k : ℕ) → k < l.automata → HeadFits s (get_or l.heads k 0)
+  row_fits k under = head_fits s _ (get_or S.automata k idle) (head_stands k idle under)
+
   -- transitions
   pub rows_stand : RowsAt s l.rows_at l.transitions (rows S)
   rows_stand = record { stands = h.rows; count = sym h.transitions; fine = rows-fine S h.formed }
-
--- what holds of each view
-module _ (s : List ℕ) (l : Layout) (h : ∥ ((S : System) × Shows s l S) ∥₁) where
-  pub kind_fits : (e : ℕ) → e < l.events → e + 1 < length s
-  kind_fits e under = ∥∥₁_elim h le_prop (λ w. (kind_stands s l w.0 w.1 e Controllable under).0)
-
-  pub variable_fits : (i : ℕ) → i < l.variables → l.events + 2 + 10 * i + 10 ≤ length s
-  variable_fits i under = ∥∥₁_elim h le_prop (λ w. variable_within s l w.0 w.1 i under)
-
-  pub few_heads : l.automata ≤ 12
-  few_heads = ∥∥₁_elim h le_prop (λ w. omega (arith, w.1.automata, w.1.formed.few_automata))
-
-  pub row_fits : (k : ℕ) → k < l.automata → HeadFits s (get_or l.heads k 0)
-  row_fits k under =
-      let fits : ((S : System) × Shows s l S) → HeadFits s (get_or l.heads k 0) = λ w. head_fits s _ (get_or w.0.automata k idle) (head_stands s l w.0 w.1 k idle under) in
-      record { size = ∥∥₁_elim h le_prop (λ w. (fits w).size); end = ∥∥₁_elim h le_prop (λ w. (fits w).end) }

@@ -6,3 +6,4 @@ pub mod HeadShown
 pub mod VariableParts
 pub mod FineRows
 pub mod FileParts
+pub mod Systems

@@ -1,16 +1,16 @@
 -- The parts of a transition's row, from where it begins.
-use Rattle.std.proofs.Common.{◌≡◌, ℕ, ◌+◌, ◌-◌, ◌<◌, true, List, [], ◌∷◌, length, get_or, take, drop, sym, refl, subst, arith, length-append}
+use Rattle.std.proofs.Common.{◌≡◌, ℕ, ◌+◌, ◌-◌, ◌<◌, List, ◌∷◌, length, get_or, take, drop, sym, refl, subst, arith, length-append}
 use mathlib.Core.Logic.{∥∥₁_elim, ∥∥₁_map}
 use native.Mathlib.Bridge.{le_prop}
 use Rattle.std.specs.List.{flat_map}
 use Rattle.scan.specs.Stands.{Stands}
-use Rattle.scan.proofs.Standing.{stands_none, stands_head, stands_split, stands_part}
-use Rattle.expr.specs.Expr.{truth, bytes_of}
+use Rattle.scan.proofs.Standing.{stands_head, stands_split, stands_part}
+use Rattle.expr.specs.Expr.{bytes_of}
 use Rattle.expr.specs.Coded.{Coded}
 use Rattle.system.specs.System.{Row}
 use Rattle.system.specs.Encode.{update_bytes, row_bytes}
-use Rattle.view.specs.Walk.{UpdatesAt, RowAt, RowsAt, RowStanding, idle_row}
-use Rattle.view.proofs.Many.{first_left}
+use Rattle.view.specs.Walk.{UpdatesAt, RowAt, RowsAt, RowStanding}
+use Rattle.view.proofs.Many.{front_left}
 
 -- where each part stands
 pub record RowParts (s : List ℕ) (at : ℕ) (r : Row) : Type 0 where
@@ -60,16 +60,9 @@ row_ends s at r h =
 
 pub row_standing : (s : List ℕ) (at left : ℕ) → ∥ ((rs : List Row) × RowsAt s at left rs) ∥₁ → (left ≡ 0 → ⊥) → RowStanding s at
 row_standing s at left h some =
-    let here : ((rs : List Row) × RowsAt s at left rs) → (r : Row) × RowAt s at r = λ w. (get_or w.0 0 idle_row, first_left idle_row w.0 w.1 some) in
+    let here : ((rs : List Row) × RowsAt s at left rs) → (r : Row) × RowAt s at r = λ w. let f = front_left w.0 w.1 some in (f.head, f.first) in
     record {
       some = ∥∥₁_map h here;
       size = ∥∥₁_elim h le_prop (λ w. let p = row_parts s at (here w).0 (here w).1 in omega arith);
       guard = ∥∥₁_elim h le_prop (λ w. let p = row_parts s at (here w).0 (here w).1 in omega arith);
     }
-
--- the guard `TRUE`, and no updates
-pub true_coded : Coded (0x01 ∷ []) (truth true)
-true_coded = record { bytes = refl; formed = record { short = omega arith; shallow = omega arith; leaves = tt } }
-
-pub no_updates : UpdatesAt [] 0 0 []
-no_updates = record { stands = stands_none [] 0; count = refl; fine = tt }

@@ -1,15 +1,15 @@
 -- The parts of an update, from where it begins.
-use Rattle.std.proofs.Common.{◌≡◌, ℕ, ◌+◌, ◌-◌, ◌≤◌, List, [], ◌∷◌, length, get_or, take, drop, pos, sym, refl, subst, arith, lit<}
+use Rattle.std.proofs.Common.{◌≡◌, ℕ, ◌+◌, ◌-◌, ◌≤◌, List, length, get_or, take, drop, sym, subst, arith}
 use mathlib.Core.Logic.{∥∥₁_elim, ∥∥₁_map}
 use native.Mathlib.Bridge.{le_prop}
 use Rattle.scan.specs.Stands.{Stands}
 use Rattle.scan.proofs.Standing.{stands_head, stands_within, stands_part}
-use Rattle.expr.specs.Expr.{literal, bytes_of}
+use Rattle.expr.specs.Expr.{bytes_of}
 use Rattle.expr.specs.Coded.{Coded}
 use Rattle.system.specs.System.{Update}
 use Rattle.system.specs.Encode.{update_bytes}
-use Rattle.view.specs.Walk.{UpdateAt, UpdatesAt, UpdateStanding, to_zero}
-use Rattle.view.proofs.Many.{first_left}
+use Rattle.view.specs.Walk.{UpdateAt, UpdatesAt, UpdateStanding}
+use Rattle.view.proofs.Many.{front_left}
 
 -- where each part stands
 pub record UpdateParts (s : List ℕ) (at : ℕ) (u : Update) : Type 0 where
@@ -38,13 +38,9 @@ update-ends s at u h = omega (arith, (update-parts s at u h).size)
 
 pub update-standing : (s : List ℕ) (at left : ℕ) → ∥ ((us : List Update) × UpdatesAt s at left us) ∥₁ → (left ≡ 0 → ⊥) → UpdateStanding s at
 update-standing s at left h some =
-    let here : ((us : List Update) × UpdatesAt s at left us) → (u : Update) × UpdateAt s at u = λ w. (get_or w.0 0 to_zero, first_left to_zero w.0 w.1 some) in
+    let here : ((us : List Update) × UpdatesAt s at left us) → (u : Update) × UpdateAt s at u = λ w. let f = front_left w.0 w.1 some in (f.head, f.first) in
     record {
       some = ∥∥₁_map h here;
       size = ∥∥₁_elim h le_prop (λ w. let p = update-parts s at (here w).0 (here w).1 in omega arith);
       end = ∥∥₁_elim h le_prop (λ w. let p = update-parts s at (here w).0 (here w).1 in omega arith);
     }
-
--- the term 0
-pub zero_coded : Coded (0x10 ∷ (0 ∷ (0 ∷ []))) (literal (pos 0))
-zero_coded = record { bytes = refl; formed = record { short = omega arith; shallow = omega arith; leaves = record { sfits = lit< tt } } }

@@ -1,5 +1,5 @@
 -- What the parts that are read from a file show of its system.
-use Rattle.std.specs.Prelude.{◌≡◌, ℕ, ◌<◌, ◌≤◌, List, map, length, Option, MatchOption, slice_index_or}
+use Rattle.std.specs.Prelude.{◌≡◌, ℕ, ◌<◌, ◌≤◌, List, [], ◌∷◌, map, length, Option, MatchOption, slice_index_or}
 use Rattle.expr.specs.Coded.{Coded}
 use Rattle.system.specs.System.{System, Automaton, Update as Assignment, Row}
 use Rattle.system.specs.Encode.{mark_byte}
@@ -11,6 +11,11 @@ use Rattle.view.specs.declared.rows.Rows.{Rows}
 use Rattle.view.specs.declared.updates.Updates.{Updates}
 use Rattle.view.specs.declared.view.View.{View}
 use Rattle.view.specs.Walk.{UpdatesAt, RowsAt}
+use Rattle.view.specs.Systems.{read_system}
+
+-- the system that a view shows, the only one
+abbrev pub system_of : View → System
+system_of v = read_system v.file.now
 
 abbrev pub ViewOf : View → System → Type 0
 ViewOf v S = Shows v.file.now v.layout S
@@ -43,3 +48,19 @@ pub record TransitionShows (r : Transition) (t : Row) : Type 0 where
 pub record UpdateShows (r : Update) (u : Assignment) : Type 0 where
   pub variable : r.variable ≡ u.variable
   pub value : Coded r.value.code.now u.value
+
+-- a list's first element and those after it
+pub record FirstAndRest {A B C : Type 0} (First : B → A → Type 0) (Rest : C → List A → Type 0) (xs : List A) (b : B) (c : C) : Type 0 where
+  pub head : A
+  pub tail : List A
+  pub are : xs ≡ head ∷ tail
+  pub first : First b head
+  pub rest : Rest c tail
+
+-- the first update and what is left after it, or none exactly where no update is left
+abbrev pub NextUpdate : Updates → Option Update → Updates → Type 0
+NextUpdate s r t = (us : List Assignment) → UpdatesOf s us → MatchOption r (us ≡ []) (λ u. FirstAndRest UpdateShows UpdatesOf us u t)
+
+-- the same of transitions
+abbrev pub NextRow : Rows → Option Transition → Rows → Type 0
+NextRow s r t = (rs : List Row) → RowsOf s rs → MatchOption r (rs ≡ []) (λ x. FirstAndRest TransitionShows RowsOf rs x t)

@@ -1,38 +1,24 @@
 // The events, variables and automata of an accepted file, by their numbers, and its transitions.
 ghost use Rattle.std.specs.Prelude.{◌≡◌, ◌+◌, ◌<◌, ◌≤◌, length, ℤ, FitsSigned};
 ghost use Rattle.std.specs.Int.{w16};
+ghost use Rattle.std.specs.Result.{MatchResult};
+ghost use Rattle.scan.specs.Says.{Says};
 ghost use Rattle.scan.specs.Stands.{Stands};
 ghost use Rattle.expr.specs.Expr.{value_bytes};
-ghost use Rattle.system.specs.System.{System, Automaton, Variable, rows as rows_of};
+ghost use Rattle.system.specs.System.{Automaton, Variable, rows as rows_of};
 ghost use Rattle.system.specs.Formed.{VariableFormed};
 ghost use Rattle.system.specs.Encode.{variable_bytes, head_bytes};
 ghost use Rattle.system.specs.Heads.{HeadFits};
 ghost use Rattle.system.specs.Ranges.{variable_of};
-ghost use Rattle.system.specs.Scan.{kind_of, role_of};
-ghost use Rattle.view.specs.Shown.{ViewOf, Element, HeadShows, RowsOf};
+ghost use Rattle.system.specs.Scan.{answer};
+ghost use Rattle.system.specs.Verdict.{StandsFor, RefusalHolds};
+ghost use Rattle.view.specs.Shown.{system_of, Element, HeadShows, RowsOf};
 
 use crate::parts::Head;
 use crate::rows::Rows;
 use crate::view::View;
+use scan::Fault;
 use system::{EventKind, Range, Role};
-
-fn kind_of(b: u8) -> EventKind
-    ensures { result ≡ kind_of b }
-{
-    match b {
-        0 => EventKind::Controllable,
-        _ => EventKind::Uncontrollable,
-    }
-}
-
-fn role_of(b: u8) -> Role
-    ensures { result ≡ role_of b }
-{
-    match b {
-        0 => Role::Plant,
-        _ => Role::Specification,
-    }
-}
 
 // The value whose two bytes begin at `at`.
 fn value_at(file: &[u8], at: usize) -> i16
@@ -64,7 +50,7 @@ fn head_at(file: &[u8], at: usize) -> Head<'_>
     let size_at = at + 3 + file[at + 1] as usize;
     let end = size_at + 1 + file[size_at] as usize;
     Head {
-        role: role_of(file[at]),
+        role: Role::from(file[at]),
         start: file[at + 2],
         marks: &file[at + 3..size_at],
         alphabet: &file[size_at + 1..end],
@@ -72,19 +58,28 @@ fn head_at(file: &[u8], at: usize) -> Head<'_>
 }
 
 impl<'a> View<'a> {
+    // Checks a file: the view of its system, or where it is refused.
+    pub fn check(file: &'a [u8]) -> Result<View<'a>, Fault>
+        ensures exact { Says (λ v S _. (v.file ≡ file.entry) × (system_of v ≡ S)) result (answer file.now) }
+        ensures means { MatchResult result (λ v. StandsFor file.now (system_of v)) (λ f. RefusalHolds file.now f) }
+    {
+        let layout = system::check(file)?;
+        Ok(View { file, layout })
+    }
+
     // The kind of an event.
     pub fn event(&self, e: u8) -> Option<EventKind>
-        ensures { (S : System) → ViewOf self.now S → Element (λ x k. x ≡ k) S.kinds e result }
+        ensures { Element (λ x k. x ≡ k) (system_of self.now).kinds e result }
     {
         if e >= self.layout.events {
             return None;
         }
-        Some(kind_of(self.file[e as usize + 1]))
+        Some(EventKind::from(self.file[e as usize + 1]))
     }
 
     // The values of a variable.
     pub fn variable(&self, i: u8) -> Option<Range>
-        ensures { (S : System) → ViewOf self.now S → Element (λ x v. variable_of x ≡ v) S.variables i result }
+        ensures { Element (λ x v. variable_of x ≡ v) (system_of self.now).variables i result }
     {
         if i >= self.layout.variables {
             return None;
@@ -95,7 +90,7 @@ impl<'a> View<'a> {
 
     // An automaton without its transitions.
     pub fn automaton(&self, k: u8) -> Option<Head<'a>>
-        ensures { (S : System) → ViewOf self.now S → Element HeadShows S.automata k result }
+        ensures { Element HeadShows (system_of self.now).automata k result }
     {
         if k >= self.layout.automata {
             return None;
@@ -105,7 +100,7 @@ impl<'a> View<'a> {
 
     // The transitions, automaton by automaton.
     pub fn rows(&self) -> Rows<'a>
-        ensures { (S : System) → ViewOf self.now S → RowsOf result (rows_of S) }
+        ensures { RowsOf result (rows_of (system_of self.now)) }
     {
         Rows {
             file: self.file,

@@ -1,6 +1,5 @@
 // An accepted file.
-ghost use Rattle.system.specs.System.{System};
-ghost use Rattle.system.specs.Shows.{Shows};
+ghost use Rattle.view.specs.Systems.{LaidOut};
 
 use system::Layout;
 
@@ -9,5 +8,5 @@ use system::Layout;
 pub struct View<'a> {
     pub file: &'a [u8],
     pub layout: Layout,
-    ghost shows: { ∥ ((S : System) × Shows file.now layout S) ∥₁ },
+    ghost laid_out: { ∥ LaidOut file.now layout ∥₁ },
 }

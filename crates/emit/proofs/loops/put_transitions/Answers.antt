@@ -1,20 +1,28 @@
-use Rattle.std.proofs.Common.{◌+◌, ◌<◌, length, subst, arith}
-use Rattle.sinks.proofs.Folds.{each_turn, each_done}
-use Rattle.view.specs.Shown.{RowsOf, TransitionShows}
-use Rattle.translation.specs.Systems.{idle_transition}
-use Rattle.emit.proofs.OwnRows.{own_here, own_next, own_length}
+use Rattle.std.proofs.Common.{ℕ, ◌+◌, fold, sym, ap, ◌∙◌, subst, inl, inr, arith}
+use Rattle.std.specs.Iterator.Adapters.{zip_second}
+use Rattle.sinks.specs.Text.{each}
+use Rattle.system.specs.System.{Transition}
+use Rattle.emit.proofs.Turns.{Left, left_turn, left_past, left_ended}
 use Rattle.emit.proofs.loops.put_transitions.Goals as goal
 
 pub loop-j-preserved : goal.loop-j-preserved
-loop-j-preserved g c k ts h =
-    let j = c.loop-j.j in
-    let inv = c.loop-j.invariant k ts h in
-    let under : j < length ts = omega (arith, own_length k j ts _ _ _ h, c.loop-j-test.true) in
-    let shows = subst (TransitionShows c.first.result) (own_here k j ts under) (c.first.ensures _ inv.0) in (
-      subst (RowsOf c.rest-rest.result) (own_next k j ts) (c.rest-rest.ensures _ inv.0),
-      each_turn g.S.Sink.step (λ i. g.P.TransitionText.text c.args.piece.now (i + 1)) ts j _ c.loop-j.s _ idle_transition under inv.1 (c.put.ensures _ shows),
+loop-j-preserved g c =
+    let e = c.in-Some.ensures.steps in
+    let f = g.S.Sink.step in
+    let F : ℕ → Transition → _ = λ i. g.P.TransitionText.text c.args.piece.now (i + 1) in
+    let inv = c.loop-j.invariant in (
+      (tt, tt),
+      tt,
+      e.0.0 ∙ inv.2,
+      λ k ts h.
+          subst (λ i. Left f F c.args.rows.now.left k i (zip_second c.next.new.self) c.put.new.s (fold f c.args.s.now (each F 0 ts))) (sym e.0.1.2)
+          (left_turn f F _ k _ _ _ _ (inv.3 k ts h) c.in-Some.t _ _ e.1 (λ r shows. c.put.ensures r shows ∙ ap (λ i. fold f c.loop-j.s (F i r.transition)) e.0.1.1)),
     )
 
 pub returns : goal.returns
 returns g c k ts h =
-    each_done g.S.Sink.step (λ i. g.P.TransitionText.text c.args.piece.now (i + 1)) ts c.loop-j.j _ c.loop-j.s (omega (arith, own_length k 0 ts _ _ _ h, c.loop-j-test.false)) (c.loop-j.invariant k ts h).1
+    let left = c.loop-j.invariant.3 k ts h in
+    elim c.in-None.ensures.steps [
+      | inl (u, done) ↦ left_past g.S.Sink.step _ _ k _ _ _ _ left (omega (arith, c.loop-j.invariant.2, done.1.0))
+      | inr (u, done) ↦ left_ended g.S.Sink.step _ _ k _ _ _ _ left u done
+    ]

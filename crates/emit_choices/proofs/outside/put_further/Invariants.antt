@@ -1,8 +1,7 @@
-use Rattle.std.proofs.Common.{◌≡◌, drop, fold}
+use Rattle.std.proofs.Common.{◌≡◌, take, fold}
 use Rattle.std.specs.List.{flat_map}
 use Rattle.emit_choices.specs.Further.{further}
 use Rattle.emit_choices.proofs.outside.put_further.Given as goal
 
 abbrev pub invariant-loop-e : goal.invariant-loop-e
-invariant-loop-e g l =
-    fold g.S.Sink.step l.s (flat_map further (drop l.e-index l.events)) ≡ fold g.S.Sink.step l.initial.s (flat_map further l.events)
+invariant-loop-e g l = l.s ≡ fold g.S.Sink.step l.initial.s (flat_map further (take l.e-index l.events))

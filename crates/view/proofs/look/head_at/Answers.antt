@@ -7,7 +7,7 @@ use Rattle.view.proofs.look.head_at.Goals as goal
 
 pub returns : goal.returns
 returns c A h = record {
-  role = c.role_of.ensures ∙ role_shown _ _ A h;
+  role = c.from.ensures ∙ role_shown _ _ A h;
   start = (head_parts _ _ A h).start;
   locations = ap length (marks_shown _ _ A h) ∙ length-map A.marks mark_byte;
   marks = marks_shown _ _ A h;
