@@ -3,7 +3,6 @@
 
 mod automata;
 mod description;
-mod numbers;
 mod refusal;
 mod text;
 mod transitions;
