@@ -1,6 +1,7 @@
 // Sets of the small numbers that events and locations have.
-ghost use Rattle.std.specs.Prelude.{◌≡◌, ℕ, ◌<◌, false, ◌&&◌, ◌||◌, ◌==◌, nat_lt};
+ghost use Rattle.std.specs.Prelude.{◌≡◌, ℕ, ◌<◌, false, ◌&&◌, ◌||◌, ◌==◌, Some, nat_lt};
 ghost use Rattle.number_sets.specs.Sets.{holds, first, last};
+ghost use Rattle.number_sets.specs.Text.{text};
 
 use std::fmt;
 
@@ -63,6 +64,8 @@ impl Numbers {
 
 // Ranges and single numbers, as `0..3, 5`.
 impl fmt::Display for Numbers {
+    ghost output = { λ s. Some (text s) };
+
     fn fmt<W: fmt::Write>(&self, f: &mut fmt::Formatter<W>) -> fmt::Result {
         let mut empty = true;
         for n in 0..64 {
