@@ -30,9 +30,9 @@ loop-n-preserved g c =
                   | then-empty v ↦ rw (sym c.loop-n.invariant.empty ∙ v.if-empty.true) (ap (λ r. r.now) v.separator-is)
                   | else-empty v ↦ rw (sym c.loop-n.invariant.empty ∙ v.if-empty.false) (ap (λ r. r.now) v.separator-is)
                 ] in
-                rw w.f-is (put_two _ _ _ _ _ _ _ before (w.in_ok-write.ensures.writes before.plain refl) (told_at_first s n _ (sym c.begins.ensures ∙ w.if-begins.true) comma))
+                rw w.f-is (put_two _ _ _ _ _ _ _ before (w.in_ok-write.ensures.writes before.plain (refl {a = true})) (told_at_first s n _ (sym c.begins.ensures ∙ w.if-begins.true) comma))
             | else-begins+then-ends+in_ok-write-2 w ↦
-                rw w.f-is (put_two _ _ _ _ _ _ _ before (w.in_ok-write-2.ensures.writes before.plain refl) (told_at_last s n (sym c.begins.ensures ∙ w.if-begins.false) (sym w.ends.ensures ∙ w.if-ends.true)))
+                rw w.f-is (put_two _ _ _ _ _ _ _ before (w.in_ok-write-2.ensures.writes before.plain (refl {a = true})) (told_at_last s n (sym c.begins.ensures ∙ w.if-begins.false) (sym w.ends.ensures ∙ w.if-ends.true)))
             | else-begins+else-ends w ↦
                 rw (w.f-is, ← (told_within s n (sym c.begins.ensures ∙ w.if-begins.false) (sym w.ends.ensures ∙ w.if-ends.false))) before
           ];

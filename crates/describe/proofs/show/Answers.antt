@@ -1,7 +1,0 @@
--- The file was accepted, so its layout shows the system that it stands for.
-use Rattle.describe.proofs.show.Goals as goal
-
-pub invariant_of-print : goal.invariant_of-print
-invariant_of-print c =
-    let w = c.in-Ok.ensures.exact.agree in
-    record { shows = ∣ (w.value, w.holds) ∣₁ }
