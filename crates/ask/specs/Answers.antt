@@ -16,4 +16,4 @@ answer_line (Error mistake) = None
 -- a word gives no bytes, unless there is no memory
 abbrev pub NoBytes : List ℕ → Failure → Type 0
 NoBytes word (NoQuestion mistake) = word_bytes word ≡ None
-NoBytes word Memory = Unit {0}
+NoBytes word (Memory e) = Unit {0}

@@ -1,7 +1,7 @@
 // Answers, and why a line has none.
 ghost use Rattle.std.specs.Prelude.{◌≡◌};
 ghost use Rattle.ask.specs.Answers.{answer_line};
-ghost use Rattle.ask.specs.declared.answer.Failure.TheVariants.{Memory};
+ghost use Rattle.ask.specs.declared.answer.Failure.TheVariants.{NoQuestion, Memory};
 
 use report::Refused;
 use scan::Fault;
@@ -56,13 +56,21 @@ impl fmt::Display for Answer {
 #[derive(Clone, Copy)]
 pub enum Failure {
     NoQuestion(Mistake),
-    Memory,
+    Memory(AllocError),
+}
+
+impl From<Mistake> for Failure {
+    ghost from_gives = { λ m r. r ≡ NoQuestion m };
+
+    fn from(mistake: Mistake) -> Failure {
+        Failure::NoQuestion(mistake)
+    }
 }
 
 impl From<AllocError> for Failure {
-    ghost from_gives = { λ _ r. r ≡ Memory };
+    ghost from_gives = { λ e r. r ≡ Memory e };
 
-    fn from(_e: AllocError) -> Failure {
-        Failure::Memory
+    fn from(e: AllocError) -> Failure {
+        Failure::Memory(e)
     }
 }

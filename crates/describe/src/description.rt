@@ -1,29 +1,16 @@
 // What a system file holds.
 use crate::automata::HeadText;
-use crate::numbers::Numbers;
 use crate::transitions::RowsText;
+use number_sets::Numbers;
 use std::fmt;
-use system::{EventKind, Range};
+use system::EventKind::{Controllable, Uncontrollable};
+use system::Range;
 use view::View;
 
-// The controllable and the uncontrollable events.
-fn events_by_kind(view: &View) -> (Numbers, Numbers) {
-    let mut controllable = Numbers::none();
-    let mut uncontrollable = Numbers::none();
-    for e in 0..view.layout.events {
-        match view.event(e) {
-            Some(EventKind::Controllable) => controllable.insert(e),
-            Some(EventKind::Uncontrollable) => uncontrollable.insert(e),
-            None => {}
-        }
-    }
-    (controllable, uncontrollable)
-}
-
 fn put_events<W: fmt::Write>(f: &mut fmt::Formatter<W>, view: &View) -> fmt::Result {
-    let count = view.layout.events;
-    let (controllable, uncontrollable) = events_by_kind(view);
-    writeln!(f, "events: {count}")?;
+    let controllable = Numbers::from_fn(|e| matches!(view.event(e), Some(Controllable)));
+    let uncontrollable = Numbers::from_fn(|e| matches!(view.event(e), Some(Uncontrollable)));
+    writeln!(f, "events: {}", view.layout.events)?;
     writeln!(f, "  controllable: {controllable}")?;
     writeln!(f, "  uncontrollable: {uncontrollable}")
 }
@@ -34,11 +21,13 @@ struct RangeText(Range);
 
 impl fmt::Display for RangeText {
     fn fmt<W: fmt::Write>(&self, f: &mut fmt::Formatter<W>) -> fmt::Result {
-        let low = self.0.low;
-        let high = self.0.high;
-        let start = self.0.start;
-        let marked_low = self.0.marked_low;
-        let marked_high = self.0.marked_high;
+        let Range {
+            low,
+            high,
+            start,
+            marked_low,
+            marked_high,
+        } = self.0;
         write!(
             f,
             "{low}..{high}, start {start}, marked {marked_low}..{marked_high}"
@@ -49,11 +38,8 @@ impl fmt::Display for RangeText {
 fn put_variables<W: fmt::Write>(f: &mut fmt::Formatter<W>, view: &View) -> fmt::Result {
     let count = view.layout.variables;
     writeln!(f, "variables: {count}")?;
-    for i in 0..count {
-        if let Some(range) = view.variable(i) {
-            let range = RangeText(range);
-            writeln!(f, "  u{i}: {range}")?;
-        }
+    for (i, range) in (0..count).filter_map(|i| view.variable(i)).enumerate() {
+        writeln!(f, "  u{i}: {}", RangeText(range))?;
     }
     Ok(())
 }
@@ -61,19 +47,15 @@ fn put_variables<W: fmt::Write>(f: &mut fmt::Formatter<W>, view: &View) -> fmt::
 fn put_automata<W: fmt::Write>(f: &mut fmt::Formatter<W>, view: &View) -> fmt::Result {
     let count = view.layout.automata;
     writeln!(f, "automata: {count}")?;
-    for k in 0..count {
-        if let Some(head) = view.automaton(k) {
-            let head = HeadText(head);
-            writeln!(f, "  {k}: {head}")?;
-        }
+    for (k, head) in (0..count).filter_map(|k| view.automaton(k)).enumerate() {
+        writeln!(f, "  {k}: {}", HeadText(head))?;
     }
     Ok(())
 }
 
 fn put_transitions<W: fmt::Write>(f: &mut fmt::Formatter<W>, view: &View) -> fmt::Result {
     let count = view.layout.transitions;
-    let rows = RowsText(view.rows());
-    write!(f, "transitions: {count}\n{rows}")
+    write!(f, "transitions: {count}\n{}", RowsText(view.rows()))
 }
 
 // The four sections of a file.

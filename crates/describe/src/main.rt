@@ -3,7 +3,6 @@
 
 mod automata;
 mod description;
-mod numbers;
 mod refusal;
 mod text;
 mod transitions;
@@ -16,8 +15,8 @@ use view::View;
 
 // A file as text: what it holds, or why it is refused.
 fn show(rt: &HostRuntime, file: &[u8]) -> io::Result<()> {
-    match system::check(file) {
-        Ok(layout) => rt.print(Description(View { file, layout })),
+    match View::check(file) {
+        Ok(view) => rt.print(Description(view)),
         Err(fault) => rt.print(Refusal { file, fault }),
     }
 }

@@ -123,9 +123,8 @@ struct PlaceText(Place);
 
 impl fmt::Display for PlaceText {
     fn fmt<W: fmt::Write>(&self, f: &mut fmt::Formatter<W>) -> fmt::Result {
-        let section = section_name(self.0.section);
-        let row = self.0.row;
-        let byte = self.0.byte;
+        let Place { section, row, byte } = self.0;
+        let section = section_name(section);
         if row == 0 {
             write!(f, "count of the {section}, byte {byte}")
         } else {
@@ -155,11 +154,8 @@ impl fmt::Display for Refusal<'_> {
         let Fault::File(wrong, place) = self.fault else {
             return writeln!(f, "{line}");
         };
-        let words = wrong_words(wrong);
-        let at = PlaceText(place);
-        let expected = expected_words(wrong, place);
-        write!(f, "{line}\n  {words}: {at}")?;
+        write!(f, "{line}\n  {}: {}", wrong_words(wrong), PlaceText(place))?;
         put_found(f, self.file, place.byte)?;
-        write!(f, "\n  expected: {expected}\n")
+        write!(f, "\n  expected: {}\n", expected_words(wrong, place))
     }
 }

@@ -1,5 +1,5 @@
 // Transitions, automaton by automaton, a line for each.
-use crate::text::{GuardText, TermText};
+use crate::text::ExpressionText;
 use std::fmt;
 use view::{Rows, Transition, Updates};
 
@@ -11,7 +11,7 @@ impl fmt::Display for UpdatesText<'_> {
     fn fmt<W: fmt::Write>(&self, f: &mut fmt::Formatter<W>) -> fmt::Result {
         for update in self.0 {
             let variable = update.variable;
-            let value = TermText(update.value);
+            let value = ExpressionText(update.value);
             write!(f, "; u{variable} := {value}")?;
         }
         Ok(())
@@ -27,7 +27,7 @@ impl fmt::Display for TransitionText<'_> {
         let from = self.0.from;
         let to = self.0.to;
         let event = self.0.event;
-        let guard = GuardText(self.0.guard);
+        let guard = ExpressionText(self.0.guard);
         let updates = UpdatesText(self.0.updates);
         write!(f, "{from} -> {to} on event {event} if {guard}{updates}")
     }

@@ -7,7 +7,7 @@ ghost use Rattle.hexadecimal.specs.Hex.{digit_of, pair_of, bytes_of};
 
 use std::alloc::{AllocError, Global};
 
-// The value of a digit.
+// The value of a digit. `char::to_digit` gives a u32, which would have to be cast back: the cases are as short.
 fn digit(b: u8) -> Option<u8>
     ensures value { result ≡ digit_of b }
     ensures bound { IfSome result (λ d. d < 16) }
@@ -24,26 +24,22 @@ fn digit(b: u8) -> Option<u8>
 fn pair(high: u8, low: u8) -> Option<u8>
     ensures { result ≡ pair_of high low }
 {
-    match (digit(high), digit(low)) {
-        (Some(high), Some(low)) => Some(16 * high + low),
-        _ => None,
-    }
+    Some(16 * digit(high)? + digit(low)?)
 }
 
 // The bytes that a text stands for, unless it has an odd length or a byte that is no digit.
 pub fn bytes_of(heap: Global, text: &[u8]) -> Result<Option<Vec<u8>>, AllocError>
     ensures { IfOk result (λ o. option_map vec_items o ≡ bytes_of text.now) }
 {
+    let (pairs, []) = text.as_chunks::<2>() else {
+        return Ok(None);
+    };
     let mut bytes = Vec::new(heap);
-    for k in 0..text.len() / 2 {
-        let Some(b) = pair(text[2 * k], text[2 * k + 1]) else {
+    for [high, low] in pairs {
+        let Some(b) = pair(*high, *low) else {
             return Ok(None);
         };
         bytes.push(b)?;
     }
-    if text.len() % 2 == 0 {
-        Ok(Some(bytes))
-    } else {
-        Ok(None)
-    }
+    Ok(Some(bytes))
 }

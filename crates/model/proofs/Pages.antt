@@ -1,5 +1,5 @@
 -- What is answered of a file in a buffer of 65,536 bytes is what is printed.
-use Rattle.std.proofs.Common.{◌≡◌, ℕ, Bool, true, false, cond, leb, List, ◌++◌, length, take, drop, IfOk, Ok, Err, Result, sym, refl, ap, ◌∙◌, arith}
+use Rattle.std.proofs.Common.{◌≡◌, ℕ, Bool, true, false, cond, leb, List, ◌++◌, length, take, drop, Ok, Err, Result, sym, refl, ap, ◌∙◌}
 use Rattle.std.proofs.lemmas.List.{take_at}
 use Rattle.scan.specs.declared.refusal.Fault.{Fault}
 use Rattle.scan.specs.declared.refusal.Fault.TheVariants.{Buffer}
@@ -13,10 +13,10 @@ use Rattle.model.specs.Page.{rule_one, refusal_page, text_page, page_by, page}
 
 fits_by : (b : Bool) (n k : ℕ) → Ok n ≡ cond {A = Result ℕ Fault} b (Ok k) (Err (Buffer k)) → (b ≡ true) × (n ≡ k)
 fits_by true n k e = (refl, cc)
-fits_by false n k e = absurd (let z : ◌≡◌ {A = ℕ} 0 1 = cc in omega arith)
+fits_by false n k e = absurd (cc)
 
 long_by : (b : Bool) (f : Fault) (k : ℕ) → Err f ≡ cond {A = Result ℕ Fault} b (Ok k) (Err (Buffer k)) → (b ≡ false) × (f ≡ Buffer k)
-long_by true f k e = absurd (let z : ◌≡◌ {A = ℕ} 0 1 = cc in omega arith)
+long_by true f k e = absurd (cc)
 long_by false f k e = (refl, cc)
 
 module _ (before after : List ℕ) (room : length before ≡ 65536) where
@@ -35,7 +35,7 @@ module _ (before after : List ℕ) (room : length before ≡ 65536) where
 
   ok_by : (o : Out System) (n : ℕ) → AnsweredBy rule_one o before after (Ok n) → take n after ≡ page_by o
   ok_by (good S end) n w = text_printed (text (model_of S rule_one)) n w
-  ok_by (bad f) n w = absurd (let e = w.answer in let z : ◌≡◌ {A = ℕ} 0 1 = cc in omega arith)
+  ok_by (bad f) n w = absurd (cc w.answer)
 
   err_by : (o : Out System) (f : Fault) → AnsweredBy rule_one o before after (Err f) → refusal_page f ≡ page_by o
   err_by (good S end) f w = refusal_printed (text (model_of S rule_one)) f w
@@ -46,8 +46,3 @@ module _ (before after : List ℕ) (room : length before ≡ 65536) where
 
   pub err_page : (s : List ℕ) (f : Fault) → Answered rule_one s before after (Err f) → refusal_page f ≡ page s
   err_page s f a = err_by (answer s) f a.by_file
-
--- a list that is made and is x is also y, where these are equal
-pub made_as : {V E : Type 0} (F : V → List ℕ) (r : Result V E) (x y : List ℕ) → x ≡ y → IfOk r (λ v. F v ≡ x) → IfOk r (λ v. F v ≡ y)
-made_as F (Ok v) x y e h = h ∙ e
-made_as F (Err z) x y e h = tt

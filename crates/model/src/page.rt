@@ -13,8 +13,7 @@ use writer::write;
 fn refusal_line(heap: Global, fault: Fault) -> Result<Vec<u8>, AllocError>
     ensures { IfOk result (λ v. v.items ≡ refused_line fault ++ codes "\n") }
 {
-    let refused = Refused(fault);
-    Ok(format!(in heap; "{refused}\n")?.into_bytes())
+    Ok(format!(in heap; "{}\n", Refused(fault))?.into_bytes())
 }
 
 // The text of a file, or the line of its refusal; a text of more than 65,536 bytes is refused.

@@ -1,1 +1,1 @@
-mod Collected
+mod Told

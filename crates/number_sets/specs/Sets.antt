@@ -1,5 +1,6 @@
 -- Which numbers a set holds, and where its ranges begin and end.
-use Rattle.std.specs.Prelude.{◌≡◌, ℕ, ◌+◌, ◌-◌, Bool, false, not, ◌&&◌, ◌||◌, List, [], ◌∷◌, ◌==◌, nat_lt, slice_index_or}
+use Rattle.std.specs.Prelude.{◌≡◌, ℕ, ◌+◌, ◌-◌, Bool, false, not, ◌&&◌, ◌||◌, List, ◌==◌, nat_lt, slice_index_or}
+use Rattle.std.specs.List.{list_any}
 use Rattle.number_sets.specs.declared.numbers.Numbers.{Numbers}
 
 abbrev pub holds : Numbers → ℕ → Bool
@@ -17,6 +18,6 @@ last s n = holds s n && not (holds s (n + 1))
 abbrev pub Collects : Numbers → (ℕ → Bool) → Type 0
 Collects s test = (k : ℕ) → holds s k ≡ (nat_lt k 64 && test k)
 
+-- a number that stands in a list
 abbrev pub among : List ℕ → ℕ → Bool
-among [] k = false
-among (x ∷ xs) k = k == x || among xs k
+among xs k = list_any (λ x. k == x) xs

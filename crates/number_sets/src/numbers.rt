@@ -1,11 +1,12 @@
 // Sets of the small numbers that events and locations have.
-ghost use Rattle.std.specs.Prelude.{◌≡◌, ℕ, false, ◌&&◌, ◌||◌, ◌==◌, nat_lt};
+ghost use Rattle.std.specs.Prelude.{◌≡◌, ℕ, ◌<◌, false, ◌&&◌, ◌||◌, ◌==◌, Some, nat_lt};
 ghost use Rattle.number_sets.specs.Sets.{holds, first, last};
+ghost use Rattle.number_sets.specs.Text.{text};
 
 use std::fmt;
 
 // A set of numbers below 64.
-#[derive(Clone, Copy)]
+#[derive(Clone, Copy, Debug, PartialEq, Eq)]
 pub struct Numbers {
     has: [bool; 64],
 }
@@ -15,6 +16,20 @@ impl Numbers {
         ensures { (k : ℕ) → holds result k ≡ false }
     {
         Numbers { has: [false; 64] }
+    }
+
+    // Those that pass a test.
+    pub fn from_fn<F: Fn(u8) -> bool>(test: F) -> Numbers
+        requires { F.IsAlwaysCallable test }
+        ensures { (k : ℕ) → k < 64 → F.post test k (holds result k) }
+    {
+        let mut numbers = Numbers::none();
+        for n in 0..64 {
+            if test(n) {
+                numbers.insert(n);
+            }
+        }
+        numbers
     }
 
     // Adds a number. One that is not below 64 is left out.
@@ -49,6 +64,8 @@ impl Numbers {
 
 // Ranges and single numbers, as `0..3, 5`.
 impl fmt::Display for Numbers {
+    ghost output = { λ s. Some (text s) };
+
     fn fmt<W: fmt::Write>(&self, f: &mut fmt::Formatter<W>) -> fmt::Result {
         let mut empty = true;
         for n in 0..64 {

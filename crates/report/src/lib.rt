@@ -4,7 +4,7 @@
 ghost use Rattle.std.specs.Prelude.{Some};
 ghost use Rattle.report.specs.Lines.{refused_line};
 
-use scan::Fault;
+use scan::{Fault, Place};
 use std::fmt;
 
 // The refusal's line: `refused N S R B` of a file, number, section, row and byte, or `refused 10 L` of a
@@ -18,10 +18,8 @@ impl fmt::Display for Refused {
     fn fmt<W: fmt::Write>(&self, f: &mut fmt::Formatter<W>) -> fmt::Result {
         let number = self.0.number();
         match self.0 {
-            Fault::File(_, place) => {
-                let section = place.section.number();
-                let row = place.row;
-                let byte = place.byte;
+            Fault::File(_, Place { section, row, byte }) => {
+                let section = section.number();
                 write!(f, "refused {number} {section} {row} {byte}")
             }
             Fault::Buffer(needed) => write!(f, "refused {number} {needed}"),

@@ -1,6 +1,6 @@
-use Rattle.std.proofs.Common.{◌≡◌, length, take, vec_items, ap, ◌∙◌, arith}
+use Rattle.std.proofs.Common.{◌≡◌, length, take, ap, ◌∙◌, arith}
 use Rattle.std.proofs.lemmas.List.{take_at}
-use Rattle.model.proofs.Pages.{ok_page, err_page, made_as}
+use Rattle.model.proofs.Pages.{ok_page, err_page}
 use Rattle.model.proofs.page.page_of.Goals as goal
 
 pub returns-in-Ok : goal.returns-in-Ok
@@ -13,4 +13,4 @@ returns-in-Ok c =
 pub returns-in-Err : goal.returns-in-Err
 returns-in-Err c =
     let room : length c.as_mut_slice.result.now ≡ 65536 = omega (arith, c.as_mut_slice.ensures.len, c.in_ok-out.ensures.len) in
-    made_as vec_items _ _ _ (err_page _ _ room _ _ c.in-Err.ensures.exact) c.refusal_line.ensures
+    rw (← (err_page _ _ room _ _ c.in-Err.ensures.exact)) c.refusal_line.ensures

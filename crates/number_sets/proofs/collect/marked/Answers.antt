@@ -1,21 +1,11 @@
-use Rattle.std.proofs.Common.{ℕ, Bool, ◌&&◌, ◌||◌, eqb, ltb, get_or, sym, ap, ◌∙◌}
+use Rattle.std.proofs.Common.{◌≡◌, ℕ, ◌<◌, ◌&&◌, Bool, eqb, ltb, get_or, arith, rules}
+use Rattle.std.proofs.lemmas.Bool.Decides.{nat_tests}
 use Rattle.number_sets.specs.Sets.{holds}
-use Rattle.number_sets.proofs.Collected.{place_in, place_out}
+use Rattle.number_sets.specs.declared.numbers.Numbers.{Numbers}
 use Rattle.number_sets.proofs.collect.marked.Goals as goal
-use Rattle.number_sets.proofs.collect.marked.Goals.{then-is_marked, else-is_marked}
 
-pub loop-k-preserved : goal.loop-k-preserved
-loop-k-preserved c n =
-    let test : ℕ → Bool = λ m. eqb (get_or c.args.marks.now m 0) 1 in
-    let k : ℕ = c.loop-k.k in
-    elim c.if-is_marked.branch [
-      | then-is_marked w ↦
-          ap (λ s. holds s n) w.numbers-is
-          ∙ w.insert.ensures n
-          ∙ ap (λ b. b || (eqb n k && ltb k 64)) (c.loop-k.invariant n)
-          ∙ place_in test n k c.loop-k-test.true (sym w.if-is_marked.ensures)
-      | else-is_marked w ↦
-          ap (λ s. holds s n) w.numbers-is
-          ∙ c.loop-k.invariant n
-          ∙ place_out test n k (sym w.if-is_marked.ensures)
-    ]
+below : (s : Numbers) (k : ℕ) (t : Bool) → (k < 64 → holds s k ≡ t) → holds s k ≡ (ltb k 64 && t)
+below s k t h = grind (arith, nat_tests)
+
+pub returns : goal.returns
+returns c k = below c.from_fn.result k (eqb (get_or c.args.marks.now k 0) 1) (λ small. let h = c.from_fn.ensures k small in search rules)

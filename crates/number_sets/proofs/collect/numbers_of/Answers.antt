@@ -1,8 +1,12 @@
-use Rattle.std.proofs.Common.{◌<◌, ◌&&◌, ◌||◌, eqb, ltb, length, get_or, sym, ap, ◌∙◌, arith}
+use Rattle.std.proofs.Common.{◌≡◌, ℕ, ◌<◌, Bool, false, ◌&&◌, ◌||◌, eqb, ltb, [], ◌∷◌, length, get_or, take, sym, ap, ◌∙◌, arith}
 use Rattle.std.proofs.lemmas.List.{take_more, take_all}
+use Rattle.std.proofs.lemmas.List.Folds.{list_any-append}
+use Rattle.std.proofs.lemmas.Bool.Decides.{nat_tests}
 use Rattle.number_sets.specs.Sets.{among}
-use Rattle.number_sets.proofs.Collected.{list_more}
 use Rattle.number_sets.proofs.collect.numbers_of.Goals as goal
+
+one_more : (k x : ℕ) (a : Bool) → ((ltb k 64 && a) || (eqb k x && ltb x 64)) ≡ (ltb k 64 && (a || (eqb k x || false)))
+one_more k x a = grind (arith, nat_tests)
 
 pub loop-event-preserved : goal.loop-event-preserved
 loop-event-preserved c k =
@@ -12,7 +16,8 @@ loop-event-preserved c k =
     let within : i < length xs = omega arith in
     c.insert.ensures k
     ∙ ap (λ b. b || (eqb k x && ltb x 64)) (c.loop-event.invariant k)
-    ∙ list_more _ x k
+    ∙ one_more k x (among (take i xs) k)
+    ∙ ap (λ b. ltb k 64 && b) (sym (list_any-append (eqb k) (take i xs) (x ∷ [])))
     ∙ ap (λ ys. ltb k 64 && among ys k) (sym (take_more xs i 0 within))
 
 pub returns : goal.returns

@@ -1,14 +1,10 @@
-use Rattle.std.proofs.Common.{◌≡◌, ℕ, zero, suc, Bool, true, false, ◌&&◌, ltb, get_or, replicate, refl, ap, ◌∙◌}
+use Rattle.std.proofs.Common.{◌≡◌, ℕ, false, ◌&&◌, ltb, get_or, replicate, arith}
+use Rattle.std.proofs.lemmas.Bool.Decides.{nat_tests}
+use Rattle.std.proofs.lemmas.List.{get_or-replicate}
 use Rattle.number_sets.proofs.numbers.Numbers.none.Goals as goal
 
-blank : (n i : ℕ) → get_or (replicate n false) i false ≡ false
-blank zero i = refl
-blank (suc n) zero = refl
-blank (suc n) (suc i) = blank n i
-
-neither : (b : Bool) → (b && false) ≡ false
-neither true = refl
-neither false = refl
+blank : (n k : ℕ) → (ltb k n && get_or (replicate n false) k false) ≡ false
+blank n k = grind (arith, nat_tests, get_or-replicate n k false false)
 
 pub returns : goal.returns
-returns c k = ap (λ b. ltb k 64 && b) (blank 64 k) ∙ neither (ltb k 64)
+returns c k = blank 64 k
