@@ -1,7 +1,7 @@
 // Transitions, automaton by automaton, a line for each.
 use crate::text::ExpressionText;
 use std::fmt;
-use view::{Rows, Transition, Updates};
+use view::{Rows, Transition, Update, Updates};
 
 // Updates, as `; u0 := (u0 + 1)` for each.
 #[derive(Clone, Copy)]
@@ -10,9 +10,8 @@ struct UpdatesText<'a>(Updates<'a>);
 impl fmt::Display for UpdatesText<'_> {
     fn fmt<W: fmt::Write>(&self, f: &mut fmt::Formatter<W>) -> fmt::Result {
         for update in self.0 {
-            let variable = update.variable;
-            let value = ExpressionText(update.value);
-            write!(f, "; u{variable} := {value}")?;
+            let Update { variable, value } = update;
+            write!(f, "; u{variable} := {}", ExpressionText(value))?;
         }
         Ok(())
     }
@@ -24,12 +23,20 @@ struct TransitionText<'a>(Transition<'a>);
 
 impl fmt::Display for TransitionText<'_> {
     fn fmt<W: fmt::Write>(&self, f: &mut fmt::Formatter<W>) -> fmt::Result {
-        let from = self.0.from;
-        let to = self.0.to;
-        let event = self.0.event;
-        let guard = ExpressionText(self.0.guard);
-        let updates = UpdatesText(self.0.updates);
-        write!(f, "{from} -> {to} on event {event} if {guard}{updates}")
+        let Transition {
+            from,
+            event,
+            to,
+            guard,
+            updates,
+            ..
+        } = self.0;
+        write!(
+            f,
+            "{from} -> {to} on event {event} if {}{}",
+            ExpressionText(guard),
+            UpdatesText(updates)
+        )
     }
 }
 
@@ -49,8 +56,7 @@ impl fmt::Display for RowsText<'_> {
                 choice = 0;
             }
             choice += 1;
-            let line = TransitionText(transition);
-            writeln!(f, "    {choice}: {line}")?;
+            writeln!(f, "    {choice}: {}", TransitionText(transition))?;
         }
         Ok(())
     }

@@ -1,7 +1,7 @@
 // What the wishes for a variable come to, and how they settle, by the expressions of a clash rule.
 ghost use Rattle.std.specs.Prelude.{◌≡◌, fold};
 ghost use Rattle.expr.specs.Coded.{Coded};
-ghost use Rattle.expr.specs.Expr.{Expr, guard, term};
+ghost use Rattle.expr.specs.Expr.{Expr};
 ghost use Rattle.expr.specs.Text.{text_of};
 ghost use Rattle.model_text.specs.Words.{name_text};
 ghost use Rattle.emit.specs.Texts.{join_text, settle_text};
@@ -9,7 +9,7 @@ ghost use Rattle.emit_wishes.specs.Lines.{defined};
 
 use clash::Rule;
 use emit::{Joining, Settling, begin_definition, put_name};
-use expr::{Expression, Guard, Names, Term};
+use expr::{Expression, Names};
 use model_text::{Double, Name, Single};
 use sinks::{Sink, put_text};
 
@@ -22,17 +22,9 @@ fn put_copy<S: Sink>(s: &mut S, x: Name, y: Name)
     put_text(s, b";\n");
 }
 
-fn put_term<S: Sink, N: Names>(s: &mut S, x: Name, body: &Term, names: &N)
-    ensures { (e : Expr term) → Coded body.now.code.now e → s.new ≡ fold S.Sink.step s.old (defined x (text_of (N.Names.name names.now) e)) }
-{
-    begin_definition(s, x);
-    body.put(s, names);
-    put_text(s, b";\n");
-}
-
-// Beside `put_term`: one function for both would take a trait over expr's two types, longer than this.
-fn put_guard<S: Sink, N: Names>(s: &mut S, x: Name, body: &Guard, names: &N)
-    ensures { (e : Expr guard) → Coded body.now.code.now e → s.new ≡ fold S.Sink.step s.old (defined x (text_of (N.Names.name names.now) e)) }
+// A name that stands for a guard or a term.
+fn put_expression<S: Sink, N: Names, E: Expression>(s: &mut S, x: Name, body: &E, names: &N)
+    ensures { (e : Expr E.kind) → Coded (E.code body.now) e → s.new ≡ fold S.Sink.step s.old (defined x (text_of (N.Names.name names.now) e)) }
 {
     begin_definition(s, x);
     body.put(s, names);
@@ -54,8 +46,8 @@ pub fn put_join<S: Sink, R: Rule>(s: &mut S, i: u8, k: u8)
         variable: i,
         automaton: k - 1,
     };
-    put_term(s, status, &R::joined_status(), &names);
-    put_term(s, value, &R::joined_value(), &names);
+    put_expression(s, status, &R::joined_status(), &names);
+    put_expression(s, value, &R::joined_value(), &names);
 }
 
 // How the wishes for variable `i` settle, where automaton `k` is the last.
@@ -66,13 +58,13 @@ pub fn put_settle<S: Sink, R: Rule>(s: &mut S, i: u8, k: u8)
         variable: i,
         automaton: k,
     };
-    put_term(
+    put_expression(
         s,
         Name::One(Single::SettledValue, i as u16),
         &R::settled_value(),
         &names,
     );
-    put_guard(
+    put_expression(
         s,
         Name::One(Single::Permission, i as u16),
         &R::permission(),

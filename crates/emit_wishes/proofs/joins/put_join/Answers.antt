@@ -29,8 +29,8 @@ returns g c =
     let y = N.Two JoinedValue i k in
     let later : 0 < k = omega arith in
     sent_as f s _ (definition_text x (written (join_name i (k - 1)) R.joined_status) ∷ []) (definition_text y (written (join_name i (k - 1)) R.joined_value)) (join_text R i k) (
-      c.put_term.new.s,
-      c.put_term.ensures R.joined_status (search rules) ∙ ap (λ z. fold f s (defined x z)) (text_written (join_name i (k - 1)) R.joined_status),
-      c.put_term-2.ensures R.joined_value (search rules) ∙ ap (λ z. fold f c.put_term.new.s (defined y z)) (text_written (join_name i (k - 1)) R.joined_value),
+      c.put_expression.new.s,
+      c.put_expression.ensures R.joined_status (search rules) ∙ ap (λ z. fold f s (defined x z)) (text_written (join_name i (k - 1)) R.joined_status),
+      c.put_expression-2.ensures R.joined_value (search rules) ∙ ap (λ z. fold f c.put_expression.new.s (defined y z)) (text_written (join_name i (k - 1)) R.joined_value),
     )
     (join_later R i k later)

@@ -18,7 +18,7 @@ returns g c =
     let x = N.One SettledValue i in
     let y = N.One Permission i in
     sent f s _ (definition_text x (written names R.settled_value) ∷ []) (definition_text y (written names R.permission)) (
-      c.put_term.new.s,
-      c.put_term.ensures R.settled_value (search rules) ∙ ap (λ z. fold f s (defined x z)) (text_written names R.settled_value),
-      c.put_guard.ensures R.permission (search rules) ∙ ap (λ z. fold f c.put_term.new.s (defined y z)) (text_written names R.permission),
+      c.put_expression.new.s,
+      c.put_expression.ensures R.settled_value (search rules) ∙ ap (λ z. fold f s (defined x z)) (text_written names R.settled_value),
+      c.put_expression-2.ensures R.permission (search rules) ∙ ap (λ z. fold f c.put_expression.new.s (defined y z)) (text_written names R.permission),
     )

@@ -3,7 +3,7 @@ use Rattle.expr.specs.Text.{text_of}
 use Rattle.model_text.specs.Words.{name_text}
 use Rattle.emit.proofs.Sent.{sent_as}
 use Rattle.emit_wishes.specs.Lines.{defined}
-use Rattle.emit_wishes.proofs.joins.put_term.Goals as goal
+use Rattle.emit_wishes.proofs.joins.put_expression.Goals as goal
 
 pub returns : goal.returns
 returns g c e h =
