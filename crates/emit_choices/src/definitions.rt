@@ -8,8 +8,8 @@ ghost use Rattle.emit.specs.Texts.{stay_text, taken_text, choices_text};
 
 use crate::outside::put_outside;
 use emit::{AutomatonText, TransitionText, begin_definition, put_compared, put_transitions};
-use expr::Numbered;
 use expr::code::Order;
+use expr::{Expression, Numbered};
 use model_text::{Double, Name, Single};
 use sinks::{Sink, put_text};
 use view::{Head, Rows, Transition};
