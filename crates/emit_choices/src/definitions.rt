@@ -10,8 +10,8 @@ use crate::outside::put_outside;
 use emit::{
     Automaton, AutomatonText, TransitionText, begin_definition, put_compared, put_transitions,
 };
-use expr::Numbered;
 use expr::code::Order;
+use expr::{Expression, Numbered};
 use model_text::{Double, Name, Single};
 use sinks::{Sink, put_text};
 use view::Transition;

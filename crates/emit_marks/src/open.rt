@@ -3,8 +3,8 @@ ghost use Rattle.emit.specs.Texts.{open_entry, open_text, plant_entry, always_te
 
 use crate::controlled::is_with;
 use emit::{AutomatonText, TransitionText, begin_definition, is_in, put_compared, put_transitions};
-use expr::Numbered;
 use expr::code::Order;
+use expr::{Expression, Numbered};
 use model_text::{Double, Name, Single};
 use sinks::{Sink, put_text};
 use system::Role;

@@ -10,8 +10,8 @@ ghost use Rattle.emit.specs.Texts.{status_entry, value_entry};
 ghost use Rattle.emit_wishes.specs.Sought.{first_is, updates_from};
 
 use emit::{TransitionText, put_compared};
-use expr::Numbered;
 use expr::code::Order;
+use expr::{Expression, Numbered};
 use model_text::{Name, Single};
 use sinks::{Sink, put_text};
 use view::{Transition, Updates};

@@ -23,12 +23,11 @@ impl Sink for Count {
     ghost step = { counted };
 
     fn put(&mut self, _b: u8) {
-        if self.n < usize::MAX {
-            self.n += 1;
-        }
+        self.n = self.n.saturating_add(1);
     }
 }
 
+// With a place, and no shrinking slice: `step` is a function of the sink's value, and each reborrow has a new name.
 #[derive(Drop)]
 pub struct Filler<'a> {
     out: &'a mut [u8],
@@ -62,7 +61,7 @@ pub fn put_number<S: Sink>(s: &mut S, n: u64)
     if n >= 10 {
         put_number(s, n / 10);
     }
-    s.put(48 + (n % 10) as u8);
+    s.put(b'0' + (n % 10) as u8);
 }
 
 // `7`, or `(-7)`.
