@@ -1,6 +1,6 @@
 // The words, operators and headings of a model text.
 ghost use Rattle.std.specs.Prelude.{◌≡◌, Decides};
-ghost use Rattle.model_text.specs.Words.{single, double};
+ghost use Rattle.model_text.specs.Words.{single, double, operator_text};
 ghost use Rattle.model_text.specs.Trees.{HasNext};
 ghost use Rattle.model_text.specs.Letters.{LetterOf};
 
@@ -105,11 +105,24 @@ pub enum Word {
     Name(Name),
 }
 
-#[derive(Clone, Copy)]
+#[derive(Clone, Copy, Debug, PartialEq, Eq)]
 pub enum Operator {
     Join(Joint),
     Test(Order),
     Sum(Sign),
+}
+
+impl Operator {
+    // With its spaces.
+    pub fn text(self) -> &'static [u8]
+        ensures { result.now ≡ operator_text self }
+    {
+        match self {
+            Operator::Join(joint) => joint.text(),
+            Operator::Test(order) => order.text(),
+            Operator::Sum(sign) => sign.text(),
+        }
+    }
 }
 
 // `MODULE main`, `IVAR`, `VAR`, `DEFINE`.
