@@ -1,14 +1,12 @@
 use Rattle.std.proofs.Common.{◌≡◌, ◌+◌, ap, ◌∙◌, arith}
-use Rattle.std.proofs.lemmas.Result.{err_from_is_err_and}
-use Rattle.scan.proofs.Runs.{answers}
+use Rattle.scan.proofs.Runs.{passed_on, answers}
 use Rattle.scan.proofs.Loops.{going_all}
 use Rattle.system.proofs.Sections.{alphabet_bad, alphabet_read}
 use Rattle.system.proofs.automata.check_alphabet.Goals as goal
 
 pub returns-in_err-e-clause-says : goal.returns-in_err-e-clause-says
 returns-in_err-e-clause-says c =
-    let p = err_from_is_err_and c.from_residual.result c.from_residual.ensures.1 in
-    rw (p.1, p.2) (record { agree = alphabet_bad _ _ _ _ _ _ _ _ c.loop-k-test.true c.loop-k.invariant.0 c.in_err-e.ensures.says })
+    passed_on _ _ _ _ c.from_residual.ensures.1 (alphabet_bad _ _ _ _ _ _ _ _ c.loop-k-test.true c.loop-k.invariant.0 c.in_err-e.ensures.says)
 
 pub loop-k-preserved : goal.loop-k-preserved
 loop-k-preserved c =

@@ -1,14 +1,12 @@
 use Rattle.std.proofs.Common.{◌≡◌, ◌<◌, length, refl, ◌∙◌, arith, length-set}
-use Rattle.std.proofs.lemmas.Result.{err_from_is_err_and}
-use Rattle.scan.proofs.Runs.{answers}
+use Rattle.scan.proofs.Runs.{passed_on, answers}
 use Rattle.scan.proofs.Loops.{going_all}
 use Rattle.system.proofs.Starts.{heads_bad, heads_begin, head_bad, head_read}
 use Rattle.system.proofs.automata.check_heads.Goals as goal
 
 pub returns-in_err-count-clause-says : goal.returns-in_err-count-clause-says
 returns-in_err-count-clause-says c =
-    let p = err_from_is_err_and c.from_residual.result c.from_residual.ensures.1 in
-    rw (p.1, p.2) (record { agree = heads_bad _ _ _ _ _ c.count_of-origin.ensures c.in_err-count.ensures.says })
+    passed_on _ _ _ _ c.from_residual.ensures.1 (heads_bad _ _ _ _ _ c.count_of-origin.ensures c.in_err-count.ensures.says)
 
 pub loop-k-init : goal.loop-k-init
 loop-k-init c =
@@ -17,8 +15,7 @@ loop-k-init c =
 
 pub returns-in_err-end-clause-says : goal.returns-in_err-end-clause-says
 returns-in_err-end-clause-says c =
-    let p = err_from_is_err_and c.from_residual-in_err-end.result c.from_residual-in_err-end.ensures.1 in
-    rw (p.1, p.2) (record { agree = head_bad _ _ _ _ _ _ _ _ _ c.loop-k-test.true c.row_after-origin.ensures c.loop-k.invariant.0 c.in_err-end.ensures.says.agree })
+    passed_on _ _ _ _ c.from_residual-in_err-end.ensures.1 (head_bad _ _ _ _ _ _ _ _ _ c.loop-k-test.true c.row_after-origin.ensures c.loop-k.invariant.0 c.in_err-end.ensures.says.agree)
 
 pub loop-k-preserved : goal.loop-k-preserved
 loop-k-preserved c =

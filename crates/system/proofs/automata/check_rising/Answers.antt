@@ -1,16 +1,15 @@
 use Rattle.std.proofs.Common.{sym, ap, ◌∙◌}
-use Rattle.std.proofs.lemmas.Result.{err_from_is_err_and}
 use Rattle.std.proofs.lemmas.Bool.{le-leb, lt-leb}
 use Rattle.scan.specs.Scan.{bad}
 use Rattle.system.specs.Scan.{rising}
+use Rattle.scan.proofs.Runs.{passed_on}
 use Rattle.system.proofs.Numbers.{both_bad, both_fails, both_read}
 use Rattle.system.proofs.automata.check_rising.Goals as goal
 
 pub returns-in_err-x-clause-says : goal.returns-in_err-x-clause-says
 unfolding rising
 returns-in_err-x-clause-says c =
-    let p = err_from_is_err_and c.from_residual.result c.from_residual.ensures.1 in
-    rw (p.1, p.2) (record { agree = both_bad _ _ _ _ _ _ _ c.in_err-x.ensures.says })
+    passed_on _ _ _ _ c.from_residual.ensures.1 (both_bad _ _ _ _ _ _ _ c.in_err-x.ensures.says)
 
 pub returns-then-floor-x-clause-says : goal.returns-then-floor-x-clause-says
 unfolding rising

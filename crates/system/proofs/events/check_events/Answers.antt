@@ -1,14 +1,12 @@
 use Rattle.std.proofs.Common.{◌≡◌, ◌+◌, ap, ◌∙◌, arith}
-use Rattle.std.proofs.lemmas.Result.{err_from_is_err_and}
-use Rattle.scan.proofs.Runs.{answers}
+use Rattle.scan.proofs.Runs.{passed_on, answers}
 use Rattle.scan.proofs.Loops.{going_all}
 use Rattle.system.proofs.Sections.{events_bad, events_begin, event_bad, event_read}
 use Rattle.system.proofs.events.check_events.Goals as goal
 
 pub returns-in_err-events-clause-says : goal.returns-in_err-events-clause-says
 returns-in_err-events-clause-says c =
-    let p = err_from_is_err_and c.from_residual.result c.from_residual.ensures.1 in
-    rw (p.1, p.2) (record { agree = events_bad _ _ _ c.count_of-origin.ensures c.in_err-events.ensures.says })
+    passed_on _ _ _ _ c.from_residual.ensures.1 (events_bad _ _ _ c.count_of-origin.ensures c.in_err-events.ensures.says)
 
 pub loop-k-init : goal.loop-k-init
 loop-k-init c =
@@ -17,8 +15,7 @@ loop-k-init c =
 
 pub returns-in_err-zero_or_one-clause-says : goal.returns-in_err-zero_or_one-clause-says
 returns-in_err-zero_or_one-clause-says c =
-    let p = err_from_is_err_and c.from_residual-in_err-zero_or_one.result c.from_residual-in_err-zero_or_one.ensures.1 in
-    rw (p.1, p.2) (record { agree = event_bad _ _ _ _ _ c.loop-k-test.true c.row_after-origin.ensures c.loop-k.invariant.0 c.in_err-zero_or_one.ensures.says })
+    passed_on _ _ _ _ c.from_residual-in_err-zero_or_one.ensures.1 (event_bad _ _ _ _ _ c.loop-k-test.true c.row_after-origin.ensures c.loop-k.invariant.0 c.in_err-zero_or_one.ensures.says)
 
 pub loop-k-preserved : goal.loop-k-preserved
 loop-k-preserved c =

@@ -1,11 +1,10 @@
-use Rattle.std.proofs.lemmas.Result.{err_from_is_err_and}
+use Rattle.scan.proofs.Runs.{passed_on}
 use Rattle.system.proofs.Rows.{count_bad, count_read, count_over}
 use Rattle.system.proofs.transitions.check_count.Goals as goal
 
 pub returns-in_err-rows-clause-says : goal.returns-in_err-rows-clause-says
 returns-in_err-rows-clause-says c =
-    let p = err_from_is_err_and c.from_residual.result c.from_residual.ensures.1 in
-    rw (p.1, p.2) (record { agree = count_bad _ _ _ _ c.count_of-origin.ensures c.in_err-rows.ensures.says })
+    passed_on _ _ _ _ c.from_residual.ensures.1 (count_bad _ _ _ _ c.count_of-origin.ensures c.in_err-rows.ensures.says)
 
 pub returns-then-rows-le512-clause-says : goal.returns-then-rows-le512-clause-says
 returns-then-rows-le512-clause-says c =

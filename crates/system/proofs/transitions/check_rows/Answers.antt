@@ -1,14 +1,12 @@
 use Rattle.std.proofs.Common.{◌≡◌, ◌<◌, length, sym, refl, ◌∙◌, arith}
-use Rattle.std.proofs.lemmas.Result.{err_from_is_err_and}
-use Rattle.scan.proofs.Runs.{answers}
+use Rattle.scan.proofs.Runs.{passed_on, answers}
 use Rattle.scan.proofs.Loops.{going_all}
 use Rattle.system.proofs.Rows.{rows_bad, rows_begin, owner_bad, row_bad, row_read}
 use Rattle.system.proofs.transitions.check_rows.Goals as goal
 
 pub returns-in_err-count-clause-says : goal.returns-in_err-count-clause-says
-returns-in_err-count-clause-says c =
-    let p = err_from_is_err_and c.from_residual.result c.from_residual.ensures.1 in
-    rw (p.1, p.2) (λ As long stand. record { agree = rows_bad _ _ As _ _ _ c.in_err-count.ensures.says })
+returns-in_err-count-clause-says c As long stand =
+    passed_on _ _ _ _ c.from_residual.ensures.1 (rows_bad _ _ As _ _ _ c.in_err-count.ensures.says)
 
 pub loop-k-init : goal.loop-k-init
 loop-k-init c =
@@ -16,17 +14,14 @@ loop-k-init c =
     (λ As long stand. rows_begin _ _ As _ _ _ h.says, h.within.1, h.within.0)
 
 pub returns-in_err-owner-clause-says : goal.returns-in_err-owner-clause-says
-returns-in_err-owner-clause-says c =
-    let p = err_from_is_err_and c.from_residual-in_err-owner.result c.from_residual-in_err-owner.ensures.1 in
-    rw (p.1, p.2) (λ As long stand. record { agree = owner_bad _ _ As _ _ _ _ _ _ _ c.loop-k-test.true c.row_after-origin.ensures _ (sym long) (c.loop-k.invariant.0 As long stand) _ c.in_err-owner.ensures.says })
+returns-in_err-owner-clause-says c As long stand =
+    passed_on _ _ _ _ c.from_residual-in_err-owner.ensures.1 (owner_bad _ _ As _ _ _ _ _ _ _ c.loop-k-test.true c.row_after-origin.ensures _ (sym long) (c.loop-k.invariant.0 As long stand) _ c.in_err-owner.ensures.says)
 
 pub returns-in_err-end-clause-says : goal.returns-in_err-end-clause-says
 returns-in_err-end-clause-says c =
-    let p = err_from_is_err_and c.from_residual-in_err-end.result c.from_residual-in_err-end.ensures.1 in
     let h = c.in_ok-owner.ensures in
-    rw (p.1, p.2) (λ As long stand.
-    let below : c.in_ok-owner.owner < length As = omega (arith, h.within.1) in
-    record { agree = row_bad _ _ As _ _ _ _ _ _ _ c.loop-k-test.true c.row_after-origin.ensures _ (sym long) (c.loop-k.invariant.0 As long stand) _ _ h.says (c.in_err-end.ensures.says _ (stand.begin _ below)).agree })
+    λ As long stand.
+    let below : c.in_ok-owner.owner < length As = omega (arith, h.within.1) in passed_on _ _ _ _ c.from_residual-in_err-end.ensures.1 (row_bad _ _ As _ _ _ _ _ _ _ c.loop-k-test.true c.row_after-origin.ensures _ (sym long) (c.loop-k.invariant.0 As long stand) _ _ h.says (c.in_err-end.ensures.says _ (stand.begin _ below)).agree)
 
 pub loop-k-preserved : goal.loop-k-preserved
 loop-k-preserved c =

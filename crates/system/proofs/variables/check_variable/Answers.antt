@@ -1,7 +1,6 @@
 use Rattle.std.proofs.Common.{◌≡◌, ◌+◌, sym, refl, ap, ◌∙◌, arith, w16, to_z, of_z, rules}
-use Rattle.std.proofs.lemmas.Result.{err_from_is_err_and}
 use Rattle.scan.specs.Scan.{bad}
-use Rattle.scan.proofs.Runs.{answers}
+use Rattle.scan.proofs.Runs.{passed_on, answers}
 use Rattle.system.specs.Scan.{variable_row}
 use Rattle.system.proofs.Sections.{value_fails, value_then, passed_values, ruled_read, ruled_bad}
 use Rattle.system.proofs.variables.check_variable.Goals as goal
@@ -9,32 +8,27 @@ use Rattle.system.proofs.variables.check_variable.Goals as goal
 pub returns-in_err-low-clause-says : goal.returns-in_err-low-clause-says
 unfolding variable_row
 returns-in_err-low-clause-says c =
-    let p = err_from_is_err_and c.from_residual.result c.from_residual.ensures.1 in
-    rw (p.1, p.2) (record { agree = value_fails _ _ _ _ _ c.in_err-low.ensures.says })
+    passed_on _ _ _ _ c.from_residual.ensures.1 (value_fails _ _ _ _ _ c.in_err-low.ensures.says)
 
 pub returns-in_err-high-clause-says : goal.returns-in_err-high-clause-says
 unfolding variable_row
 returns-in_err-high-clause-says c =
-    let p = err_from_is_err_and c.from_residual-in_err-high.result c.from_residual-in_err-high.ensures.1 in
-    rw (p.1, p.2) (record { agree = value_then _ _ _ _ _ _ (omega arith) c.in_ok-low.ensures.says ∙ value_fails _ _ _ _ _ c.in_err-high.ensures.says })
+    passed_on _ _ _ _ c.from_residual-in_err-high.ensures.1 (value_then _ _ _ _ _ _ (omega arith) c.in_ok-low.ensures.says ∙ value_fails _ _ _ _ _ c.in_err-high.ensures.says)
 
 pub returns-in_err-start-clause-says : goal.returns-in_err-start-clause-says
 unfolding variable_row
 returns-in_err-start-clause-says c =
-    let p = err_from_is_err_and c.from_residual-in_err-start.result c.from_residual-in_err-start.ensures.1 in
-    rw (p.1, p.2) (record { agree = value_then _ _ _ _ _ _ (omega arith) c.in_ok-low.ensures.says ∙ value_then _ _ _ _ _ _ (omega arith) c.in_ok-high.ensures.says ∙ value_fails _ _ _ _ _ c.in_err-start.ensures.says })
+    passed_on _ _ _ _ c.from_residual-in_err-start.ensures.1 (value_then _ _ _ _ _ _ (omega arith) c.in_ok-low.ensures.says ∙ value_then _ _ _ _ _ _ (omega arith) c.in_ok-high.ensures.says ∙ value_fails _ _ _ _ _ c.in_err-start.ensures.says)
 
 pub returns-in_err-marked_low-clause-says : goal.returns-in_err-marked_low-clause-says
 unfolding variable_row
 returns-in_err-marked_low-clause-says c =
-    let p = err_from_is_err_and c.from_residual-in_err-marked_low.result c.from_residual-in_err-marked_low.ensures.1 in
-    rw (p.1, p.2) (record { agree = value_then _ _ _ _ _ _ (omega arith) c.in_ok-low.ensures.says ∙ value_then _ _ _ _ _ _ (omega arith) c.in_ok-high.ensures.says ∙ value_then _ _ _ _ _ _ (omega arith) c.in_ok-start.ensures.says ∙ value_fails _ _ _ _ _ c.in_err-marked_low.ensures.says })
+    passed_on _ _ _ _ c.from_residual-in_err-marked_low.ensures.1 (value_then _ _ _ _ _ _ (omega arith) c.in_ok-low.ensures.says ∙ value_then _ _ _ _ _ _ (omega arith) c.in_ok-high.ensures.says ∙ value_then _ _ _ _ _ _ (omega arith) c.in_ok-start.ensures.says ∙ value_fails _ _ _ _ _ c.in_err-marked_low.ensures.says)
 
 pub returns-in_err-marked_high-clause-says : goal.returns-in_err-marked_high-clause-says
 unfolding variable_row
 returns-in_err-marked_high-clause-says c =
-    let p = err_from_is_err_and c.from_residual-in_err-marked_high.result c.from_residual-in_err-marked_high.ensures.1 in
-    rw (p.1, p.2) (record { agree = value_then _ _ _ _ _ _ (omega arith) c.in_ok-low.ensures.says ∙ value_then _ _ _ _ _ _ (omega arith) c.in_ok-high.ensures.says ∙ value_then _ _ _ _ _ _ (omega arith) c.in_ok-start.ensures.says ∙ value_then _ _ _ _ _ _ (omega arith) c.in_ok-marked_low.ensures.says ∙ value_fails _ _ _ _ _ c.in_err-marked_high.ensures.says })
+    passed_on _ _ _ _ c.from_residual-in_err-marked_high.ensures.1 (value_then _ _ _ _ _ _ (omega arith) c.in_ok-low.ensures.says ∙ value_then _ _ _ _ _ _ (omega arith) c.in_ok-high.ensures.says ∙ value_then _ _ _ _ _ _ (omega arith) c.in_ok-start.ensures.says ∙ value_then _ _ _ _ _ _ (omega arith) c.in_ok-marked_low.ensures.says ∙ value_fails _ _ _ _ _ c.in_err-marked_high.ensures.says)
 
 pub returns-then-in_order-clause-says : goal.returns-then-in_order-clause-says
 unfolding variable_row

@@ -1,14 +1,12 @@
 use Rattle.std.proofs.Common.{◌≡◌, ◌+◌, ◌*◌, ap, ◌∙◌, arith}
-use Rattle.std.proofs.lemmas.Result.{err_from_is_err_and}
-use Rattle.scan.proofs.Runs.{answers}
+use Rattle.scan.proofs.Runs.{passed_on, answers}
 use Rattle.scan.proofs.Loops.{going_all}
 use Rattle.system.proofs.Sections.{variables_bad, variables_begin, variable_bad, variable_read}
 use Rattle.system.proofs.variables.check_variables.Goals as goal
 
 pub returns-in_err-variables-clause-says : goal.returns-in_err-variables-clause-says
 returns-in_err-variables-clause-says c =
-    let p = err_from_is_err_and c.from_residual.result c.from_residual.ensures.1 in
-    rw (p.1, p.2) (record { agree = variables_bad _ _ _ _ c.count_of-origin.ensures c.in_err-variables.ensures.says })
+    passed_on _ _ _ _ c.from_residual.ensures.1 (variables_bad _ _ _ _ c.count_of-origin.ensures c.in_err-variables.ensures.says)
 
 pub loop-k-init : goal.loop-k-init
 loop-k-init c =
@@ -17,8 +15,7 @@ loop-k-init c =
 
 pub returns-in_err-check_variable-clause-says : goal.returns-in_err-check_variable-clause-says
 returns-in_err-check_variable-clause-says c =
-    let p = err_from_is_err_and c.from_residual-in_err-check_variable.result c.from_residual-in_err-check_variable.ensures.1 in
-    rw (p.1, p.2) (record { agree = variable_bad _ _ _ _ _ _ c.loop-k-test.true c.row_after-origin.ensures c.loop-k.invariant.0 c.in_err-check_variable.ensures.says.agree })
+    passed_on _ _ _ _ c.from_residual-in_err-check_variable.ensures.1 (variable_bad _ _ _ _ _ _ c.loop-k-test.true c.row_after-origin.ensures c.loop-k.invariant.0 c.in_err-check_variable.ensures.says.agree)
 
 pub loop-k-preserved : goal.loop-k-preserved
 loop-k-preserved c =
