@@ -1,5 +1,7 @@
 -- What a scanner says, step by step.
 use Rattle.std.proofs.Common.{◌≡◌, ℕ, ◌+◌, ◌<◌, ◌≤◌, Bool, true, false, ltb, List, length, get_or, Ok, Err, Result, sym, refl, ap, ◌∙◌, inl, inr, arith}
+use Rattle.std.specs.Result.{IsErrAnd}
+use Rattle.std.proofs.lemmas.Result.{err_from_is_err_and}
 use Rattle.std.proofs.lemmas.Bool.{lt-ltb, le-ltb, cond-true, cond-false, cases_Bool}
 use Rattle.scan.specs.declared.refusal.Origin.{Origin}
 use Rattle.scan.specs.declared.refusal.Fault.{Fault}
@@ -42,6 +44,10 @@ module _ {A R : Type 0} (K : R → A → ℕ → Type 0) (m : Out A) where
 
   pub refuses : (r : Result R Fault) (f g : Fault) → r ≡ Err f → f ≡ g → m ≡ bad g → Says K r m
   refuses r f g p q is = rw (p, q) (record { agree = is })
+
+  -- a refusal that `?` passes on
+  pub passed_on : (r : Result R Fault) (f : Fault) → IsErrAnd r (λ g. g ≡ f) → m ≡ bad f → Says K r m
+  passed_on r f e is = let p = err_from_is_err_and r e in refuses r p.0 f p.1 p.2 is
 
 -- one scanner and then another
 abbrev pub after : {A B : Type 0} → Out A → (A → ℕ → Out B) → Out B

@@ -1,18 +1,12 @@
 -- What the two ends hold after a text: its length, and its bytes.
-use Rattle.std.proofs.Common.{◌≡◌, ℕ, ◌+◌, ◌-◌, ◌^◌, ◌<◌, ◌≤◌, true, leb, List, [], ◌∷◌, ◌++◌, length, take, drop, set, ℤ, pos, negsuc, nat_abs, Ok, Err, codes, decimal, fold, sym, refl, ap, ◌∙◌, append_assoc, add-zero, zero-add, arith, length-set, take-append-drop}
-use lib.Signed.{lt_z}
+use Rattle.std.proofs.Common.{◌≡◌, ℕ, ◌+◌, ◌-◌, ◌^◌, ◌<◌, ◌≤◌, true, leb, List, [], ◌∷◌, ◌++◌, length, take, drop, set, Ok, Err, fold, sym, ap, ◌∙◌, append_assoc, add-zero, zero-add, arith, length-set, take-append-drop}
 use Rattle.std.proofs.lemmas.List.{take_more_set, drop-set-lt}
-use Rattle.std.proofs.lemmas.Int.{ints}
 use Rattle.std.proofs.lemmas.Bool.{le-leb, lt-ltb, cond-true}
 use Rattle.sinks.specs.declared.Count.{Count}
 use Rattle.sinks.specs.declared.Filler.{Filler}
 use Rattle.sinks.specs.Post.{Written}
 use Rattle.sinks.specs.Steps.{counted, filled}
-use Rattle.sinks.specs.Text.{laid, value_text}
-
-pub value-below : (z : ℤ) → lt_z z (pos 0) ≡ true → value_text z ≡ codes "(-" ++ (decimal (nat_abs z) ++ codes ")")
-value-below (pos n) h = absurd (let z : ⊥ = grind (arith, ints) in z)
-value-below (negsuc n) h = refl
+use Rattle.sinks.specs.Text.{laid}
 
 pub counts : (t : List ℕ) (s : Count) → s.n + length t < 2 ^ 64 → (fold counted s t).n ≡ s.n + length t
 counts [] s h = sym (add-zero s.n)

@@ -1,14 +1,13 @@
 use Rattle.std.proofs.Common.{sym, ap, ◌∙◌}
-use Rattle.std.proofs.lemmas.Result.{err_from_is_err_and}
 use Rattle.scan.specs.Scan.{bad}
 use Rattle.expr.specs.Expr.{guard, term}
+use Rattle.scan.proofs.Runs.{passed_on}
 use Rattle.expr.proofs.Scans.{at_none, no_byte, truth_read, unknown_guard, unknown_term, not_read, join_bad, join_read, test_bad, test_read, sum_bad, sum_read, case_bad, case_then_bad, case_read, literal_stops, literal_stops_later, literal_read, variable_stops, variable_read, variable_far}
 use Rattle.expr.proofs.check.+end.Goals as goal
 
 pub GuardCheck::end-returns-in_err-b-clause-says : goal.GuardCheck::end-returns-in_err-b-clause-says
 GuardCheck::end-returns-in_err-b-clause-says t c =
-    let p = err_from_is_err_and c.from_residual.result c.from_residual.ensures.1 in
-    rw (p.1, p.2) (record { agree = no_byte _ _ _ guard _ _ _ _ c.requires.0 c.in_err-b.ensures })
+    passed_on _ _ _ _ c.from_residual.ensures.1 (no_byte _ _ _ guard _ _ _ _ c.requires.0 c.in_err-b.ensures)
 
 pub GuardCheck::end-returns-then-depth-eq0-clause-says : goal.GuardCheck::end-returns-then-depth-eq0-clause-says
 GuardCheck::end-returns-then-depth-eq0-clause-says t c =
@@ -20,8 +19,7 @@ GuardCheck::end-returns-in-None-clause-says t c =
 
 pub TermCheck::end-returns-in_err-b-clause-says : goal.TermCheck::end-returns-in_err-b-clause-says
 TermCheck::end-returns-in_err-b-clause-says t c =
-    let p = err_from_is_err_and c.from_residual.result c.from_residual.ensures.1 in
-    rw (p.1, p.2) (record { agree = no_byte _ _ _ term _ _ _ _ c.requires.0 c.in_err-b.ensures })
+    passed_on _ _ _ _ c.from_residual.ensures.1 (no_byte _ _ _ term _ _ _ _ c.requires.0 c.in_err-b.ensures)
 
 pub TermCheck::end-returns-then-depth-eq0-clause-says : goal.TermCheck::end-returns-then-depth-eq0-clause-says
 TermCheck::end-returns-then-depth-eq0-clause-says t c =
@@ -44,8 +42,7 @@ GuardCheck::end-returns-in-Some-Not-clause-says t c =
 pub GuardCheck::end-returns-in_err-next-in-Some-Join-clause-says : goal.GuardCheck::end-returns-in_err-next-in-Some-Join-clause-says
 GuardCheck::end-returns-in_err-next-in-Some-Join-clause-says t c =
     let is = rw c.in-Some-Join.field-0-is at c.in-Some-Join.ensures in
-    let p = err_from_is_err_and c.from_residual-in_err-next-in-Some-Join.result c.from_residual-in_err-next-in-Some-Join.ensures.1 in
-    rw (p.1, p.2) (record { agree = join_bad _ _ _ _ _ _ _ c.if-depth-eq0.false c.in_ok-b.ensures _ _ is c.in_err-next-in-Some-Join.ensures.says })
+    passed_on _ _ _ _ c.from_residual-in_err-next-in-Some-Join.ensures.1 (join_bad _ _ _ _ _ _ _ c.if-depth-eq0.false c.in_ok-b.ensures _ _ is c.in_err-next-in-Some-Join.ensures.says)
 
 pub GuardCheck::end-returns-in_ok-next-in-Some-Join-clause-says : goal.GuardCheck::end-returns-in_ok-next-in-Some-Join-clause-says
 GuardCheck::end-returns-in_ok-next-in-Some-Join-clause-says t c =
@@ -55,8 +52,7 @@ GuardCheck::end-returns-in_ok-next-in-Some-Join-clause-says t c =
 pub GuardCheck::end-returns-in_err-next-in-Some-Test-clause-says : goal.GuardCheck::end-returns-in_err-next-in-Some-Test-clause-says
 GuardCheck::end-returns-in_err-next-in-Some-Test-clause-says t c =
     let is = rw c.in-Some-Test.field-0-is at c.in-Some-Test.ensures in
-    let p = err_from_is_err_and c.from_residual-in_err-next-in-Some-Test.result c.from_residual-in_err-next-in-Some-Test.ensures.1 in
-    rw (p.1, p.2) (record { agree = test_bad _ _ _ _ _ _ _ c.if-depth-eq0.false c.in_ok-b.ensures _ _ is c.in_err-next-in-Some-Test.ensures.says })
+    passed_on _ _ _ _ c.from_residual-in_err-next-in-Some-Test.ensures.1 (test_bad _ _ _ _ _ _ _ c.if-depth-eq0.false c.in_ok-b.ensures _ _ is c.in_err-next-in-Some-Test.ensures.says)
 
 pub GuardCheck::end-returns-in_ok-next-in-Some-Test-clause-says : goal.GuardCheck::end-returns-in_ok-next-in-Some-Test-clause-says
 GuardCheck::end-returns-in_ok-next-in-Some-Test-clause-says t c =
@@ -66,8 +62,7 @@ GuardCheck::end-returns-in_ok-next-in-Some-Test-clause-says t c =
 pub TermCheck::end-returns-in_err-next-in-Some-Sum-clause-says : goal.TermCheck::end-returns-in_err-next-in-Some-Sum-clause-says
 TermCheck::end-returns-in_err-next-in-Some-Sum-clause-says t c =
     let is = rw c.in-Some-Sum.field-0-is at c.in-Some-Sum.ensures in
-    let p = err_from_is_err_and c.from_residual-in_err-next-in-Some-Sum.result c.from_residual-in_err-next-in-Some-Sum.ensures.1 in
-    rw (p.1, p.2) (record { agree = sum_bad _ _ _ _ _ _ _ c.if-depth-eq0.false c.in_ok-b.ensures _ _ is c.in_err-next-in-Some-Sum.ensures.says })
+    passed_on _ _ _ _ c.from_residual-in_err-next-in-Some-Sum.ensures.1 (sum_bad _ _ _ _ _ _ _ c.if-depth-eq0.false c.in_ok-b.ensures _ _ is c.in_err-next-in-Some-Sum.ensures.says)
 
 pub TermCheck::end-returns-in_ok-next-in-Some-Sum-clause-says : goal.TermCheck::end-returns-in_ok-next-in-Some-Sum-clause-says
 TermCheck::end-returns-in_ok-next-in-Some-Sum-clause-says t c =
@@ -77,14 +72,12 @@ TermCheck::end-returns-in_ok-next-in-Some-Sum-clause-says t c =
 pub TermCheck::end-returns-in_err-first-in-Some-Case-clause-says : goal.TermCheck::end-returns-in_err-first-in-Some-Case-clause-says
 TermCheck::end-returns-in_err-first-in-Some-Case-clause-says t c =
     let is = rw c.in-Some-Case.field-0-is at c.in-Some-Case.ensures in
-    let p = err_from_is_err_and c.from_residual-in_err-first-in-Some-Case.result c.from_residual-in_err-first-in-Some-Case.ensures.1 in
-    rw (p.1, p.2) (record { agree = case_bad _ _ _ _ _ _ _ c.if-depth-eq0.false c.in_ok-b.ensures _ is c.in_err-first-in-Some-Case.ensures.says })
+    passed_on _ _ _ _ c.from_residual-in_err-first-in-Some-Case.ensures.1 (case_bad _ _ _ _ _ _ _ c.if-depth-eq0.false c.in_ok-b.ensures _ is c.in_err-first-in-Some-Case.ensures.says)
 
 pub TermCheck::end-returns-in_err-next-in-Some-Case-clause-says : goal.TermCheck::end-returns-in_err-next-in-Some-Case-clause-says
 TermCheck::end-returns-in_err-next-in-Some-Case-clause-says t c =
     let is = rw c.in-Some-Case.field-0-is at c.in-Some-Case.ensures in
-    let p = err_from_is_err_and c.from_residual-in_err-next-in-Some-Case.result c.from_residual-in_err-next-in-Some-Case.ensures.1 in
-    rw (p.1, p.2) (record { agree = case_then_bad _ _ _ _ _ _ _ c.if-depth-eq0.false c.in_ok-b.ensures _ _ is c.in_ok-first-in-Some-Case.ensures.says c.in_err-next-in-Some-Case.ensures.says })
+    passed_on _ _ _ _ c.from_residual-in_err-next-in-Some-Case.ensures.1 (case_then_bad _ _ _ _ _ _ _ c.if-depth-eq0.false c.in_ok-b.ensures _ _ is c.in_ok-first-in-Some-Case.ensures.says c.in_err-next-in-Some-Case.ensures.says)
 
 pub TermCheck::end-returns-in_ok-next-in-Some-Case-clause-says : goal.TermCheck::end-returns-in_ok-next-in-Some-Case-clause-says
 TermCheck::end-returns-in_ok-next-in-Some-Case-clause-says t c =
@@ -94,14 +87,12 @@ TermCheck::end-returns-in_ok-next-in-Some-Case-clause-says t c =
 pub TermCheck::end-returns-in_err-next_byte-in-Some-Literal-clause-says : goal.TermCheck::end-returns-in_err-next_byte-in-Some-Literal-clause-says
 TermCheck::end-returns-in_err-next_byte-in-Some-Literal-clause-says t c =
     let is = rw c.in-Some-Literal.field-0-is at c.in-Some-Literal.ensures in
-    let p = err_from_is_err_and c.from_residual-in_err-next_byte-in-Some-Literal.result c.from_residual-in_err-next_byte-in-Some-Literal.ensures.1 in
-    rw (p.1, p.2) (record { agree = literal_stops _ _ _ _ _ _ _ c.if-depth-eq0.false c.in_ok-b.ensures _ is c.in_err-next_byte-in-Some-Literal.ensures })
+    passed_on _ _ _ _ c.from_residual-in_err-next_byte-in-Some-Literal.ensures.1 (literal_stops _ _ _ _ _ _ _ c.if-depth-eq0.false c.in_ok-b.ensures _ is c.in_err-next_byte-in-Some-Literal.ensures)
 
 pub TermCheck::end-returns-in_err-next_byte-in-Some-Literal-2-clause-says : goal.TermCheck::end-returns-in_err-next_byte-in-Some-Literal-2-clause-says
 TermCheck::end-returns-in_err-next_byte-in-Some-Literal-2-clause-says t c =
     let is = rw c.in-Some-Literal.field-0-is at c.in-Some-Literal.ensures in
-    let p = err_from_is_err_and c.from_residual-in_err-next_byte-in-Some-Literal-2.result c.from_residual-in_err-next_byte-in-Some-Literal-2.ensures.1 in
-    rw (p.1, p.2) (record { agree = literal_stops_later _ _ _ _ _ _ _ c.if-depth-eq0.false c.in_ok-b.ensures _ _ is c.in_ok-next_byte-in-Some-Literal.ensures c.in_err-next_byte-in-Some-Literal-2.ensures })
+    passed_on _ _ _ _ c.from_residual-in_err-next_byte-in-Some-Literal-2.ensures.1 (literal_stops_later _ _ _ _ _ _ _ c.if-depth-eq0.false c.in_ok-b.ensures _ _ is c.in_ok-next_byte-in-Some-Literal.ensures c.in_err-next_byte-in-Some-Literal-2.ensures)
 
 pub TermCheck::end-returns-in_ok-next_byte-in-Some-Literal-2-clause-says : goal.TermCheck::end-returns-in_ok-next_byte-in-Some-Literal-2-clause-says
 TermCheck::end-returns-in_ok-next_byte-in-Some-Literal-2-clause-says t c =
@@ -112,8 +103,7 @@ TermCheck::end-returns-in_ok-next_byte-in-Some-Literal-2-clause-says t c =
 pub TermCheck::end-returns-in_err-v-in-Some-Variable-clause-says : goal.TermCheck::end-returns-in_err-v-in-Some-Variable-clause-says
 TermCheck::end-returns-in_err-v-in-Some-Variable-clause-says t c =
     let is = rw c.in-Some-Variable.field-0-is at c.in-Some-Variable.ensures in
-    let p = err_from_is_err_and c.from_residual-in_err-v-in-Some-Variable.result c.from_residual-in_err-v-in-Some-Variable.ensures.1 in
-    rw (p.1, p.2) (record { agree = variable_stops _ _ _ _ _ _ _ c.if-depth-eq0.false c.in_ok-b.ensures _ is c.in_err-v-in-Some-Variable.ensures })
+    passed_on _ _ _ _ c.from_residual-in_err-v-in-Some-Variable.ensures.1 (variable_stops _ _ _ _ _ _ _ c.if-depth-eq0.false c.in_ok-b.ensures _ is c.in_err-v-in-Some-Variable.ensures)
 
 pub TermCheck::end-returns-then-v-checker-clause-says : goal.TermCheck::end-returns-then-v-checker-clause-says
 TermCheck::end-returns-then-v-checker-clause-says t c =

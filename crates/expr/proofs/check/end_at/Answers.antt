@@ -1,16 +1,14 @@
-use Rattle.std.proofs.lemmas.Result.{err_from_is_err_and}
+use Rattle.scan.proofs.Runs.{passed_on}
 use Rattle.expr.proofs.Lengths.{sized_none, sized_bad, sized_read}
 use Rattle.expr.proofs.check.end_at.Goals as goal
 
 pub returns-in_err-end-clause-says : goal.returns-in_err-end-clause-says
 returns-in_err-end-clause-says g c =
-    let p = err_from_is_err_and c.from_residual.result c.from_residual.ensures.1 in
-    rw (p.1, p.2) (record { agree = sized_none _ _ _ g.E.Expression.kind _ _ c.in_err-end.ensures })
+    passed_on _ _ _ _ c.from_residual.ensures.1 (sized_none _ _ _ g.E.Expression.kind _ _ c.in_err-end.ensures)
 
 pub returns-in_err-stop-clause-says : goal.returns-in_err-stop-clause-says
 returns-in_err-stop-clause-says g c =
-    let p = err_from_is_err_and c.from_residual-in_err-stop.result c.from_residual-in_err-stop.ensures.1 in
-    rw (p.1, p.2) (record { agree = sized_bad _ _ _ g.E.Expression.kind _ _ c.in_ok-end.ensures _ c.in_err-stop.ensures.says })
+    passed_on _ _ _ _ c.from_residual-in_err-stop.ensures.1 (sized_bad _ _ _ g.E.Expression.kind _ _ c.in_ok-end.ensures _ c.in_err-stop.ensures.says)
 
 pub returns-clause-says : goal.returns-clause-says
 returns-clause-says g c =

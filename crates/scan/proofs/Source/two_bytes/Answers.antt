@@ -1,20 +1,17 @@
 use Rattle.std.proofs.Common.{sym, refl, ◌∙◌}
-use Rattle.std.proofs.lemmas.Result.{err_from_is_err_and}
 use Rattle.scan.specs.Scan.{pair}
-use Rattle.scan.proofs.Runs.{ask_ends, ask_goes, answers, run-done}
+use Rattle.scan.proofs.Runs.{passed_on, ask_ends, ask_goes, answers, run-done}
 use Rattle.scan.proofs.Source.two_bytes.Goals as goal
 
 pub returns-in_err-high-clause-says : goal.returns-in_err-high-clause-says
 unfolding pair
 returns-in_err-high-clause-says c =
-    let p = err_from_is_err_and c.from_residual.result c.from_residual.ensures.1 in
-    rw (p.1, p.2) (record { agree = ask_ends _ _ _ _ _ c.in_err-high.ensures })
+    passed_on _ _ _ _ c.from_residual.ensures.1 (ask_ends _ _ _ _ _ c.in_err-high.ensures)
 
 pub returns-in_err-low-clause-says : goal.returns-in_err-low-clause-says
 unfolding pair
 returns-in_err-low-clause-says c =
-    let p = err_from_is_err_and c.from_residual-in_err-low.result c.from_residual-in_err-low.ensures.1 in
-    rw (p.1, p.2) (record { agree = ask_goes _ _ _ _ _ c.in_ok-high.ensures ∙ ask_ends _ _ _ _ _ c.in_err-low.ensures })
+    passed_on _ _ _ _ c.from_residual-in_err-low.ensures.1 (ask_goes _ _ _ _ _ c.in_ok-high.ensures ∙ ask_ends _ _ _ _ _ c.in_err-low.ensures)
 
 pub returns-clause-says : goal.returns-clause-says
 unfolding pair

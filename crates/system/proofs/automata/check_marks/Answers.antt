@@ -1,28 +1,20 @@
 use Rattle.std.proofs.Common.{◌≡◌, ◌+◌, ap, ◌∙◌, arith}
-use Rattle.std.proofs.lemmas.Result.{err_from_is_err_and}
-use Rattle.scan.proofs.Runs.{answers}
+use Rattle.scan.proofs.Runs.{passed_on, answers}
 use Rattle.scan.proofs.Loops.{going_all, going_bad}
 use Rattle.system.proofs.Sections.{mark_bad, mark_read}
 use Rattle.system.proofs.automata.check_marks.Goals as goal
 
-pub returns-in_err-zero_or_one : goal.returns-in_err-zero_or_one
-returns-in_err-zero_or_one c =
-    let p = err_from_is_err_and c.from_residual.result c.from_residual.ensures.1 in
-    rw (p.1, p.2) (record {
-      says = record { agree = going_bad _ _ _ _ _ _ _ _ c.loop-k-test.true c.loop-k.invariant.0 (mark_bad _ _ _ _ c.in_err-zero_or_one.ensures.says) };
-      within = tt;
-    })
+pub returns-in_err-zero_or_one-clause-says : goal.returns-in_err-zero_or_one-clause-says
+returns-in_err-zero_or_one-clause-says c =
+    passed_on _ _ _ _ c.from_residual.ensures.1 (going_bad _ _ _ _ _ _ _ _ c.loop-k-test.true c.loop-k.invariant.0 (mark_bad _ _ _ _ c.in_err-zero_or_one.ensures.says))
 
 pub loop-k-preserved : goal.loop-k-preserved
 loop-k-preserved c =
     let h = c.in_ok-zero_or_one.ensures in
     (mark_read _ _ _ _ _ _ c.loop-k-test.true c.loop-k.invariant.0 h.says, omega (arith, h.within.0))
 
-pub returns : goal.returns
-returns c =
+pub returns-clause-says : goal.returns-clause-says
+returns-clause-says c =
     let same : c.loop-k.k ≡ c.args.locations = omega (arith, c.loop-k.auto.k-end) in
     let g = c.loop-k.invariant.0 in
-    record {
-      says = answers _ _ _ _ _ (going_all _ _ _ _ _ _ _ c.loop-k-test.false g) (g.count ∙ same, ap (λ n. c.args.at + n) same);
-      within = omega (arith, c.loop-k.invariant.1);
-    }
+    answers _ _ _ _ _ (going_all _ _ _ _ _ _ _ c.loop-k-test.false g) (g.count ∙ same, ap (λ n. c.args.at + n) same)

@@ -1,38 +1,27 @@
 use Rattle.std.proofs.Common.{◌≡◌, ◌<◌, length, sym, refl, ◌∙◌, arith}
-use Rattle.std.proofs.lemmas.Result.{err_from_is_err_and}
-use Rattle.scan.proofs.Runs.{answers}
+use Rattle.scan.proofs.Runs.{passed_on, answers}
 use Rattle.scan.proofs.Loops.{going_all}
 use Rattle.system.proofs.Rows.{rows_bad, rows_begin, owner_bad, row_bad, row_read}
 use Rattle.system.proofs.transitions.check_rows.Goals as goal
 
-pub returns-in_err-count : goal.returns-in_err-count
-returns-in_err-count c =
-    let p = err_from_is_err_and c.from_residual.result c.from_residual.ensures.1 in
-    rw (p.1, p.2) (record { says = λ As long stand. record { agree = rows_bad _ _ As _ _ _ c.in_err-count.ensures.says }; within = tt })
+pub returns-in_err-count-clause-says : goal.returns-in_err-count-clause-says
+returns-in_err-count-clause-says c As long stand =
+    passed_on _ _ _ _ c.from_residual.ensures.1 (rows_bad _ _ As _ _ _ c.in_err-count.ensures.says)
 
 pub loop-k-init : goal.loop-k-init
 loop-k-init c =
     let h = c.in_ok-count.ensures in
     (λ As long stand. rows_begin _ _ As _ _ _ h.says, h.within.1, h.within.0)
 
-pub returns-in_err-owner : goal.returns-in_err-owner
-returns-in_err-owner c =
-    let p = err_from_is_err_and c.from_residual-in_err-owner.result c.from_residual-in_err-owner.ensures.1 in
-    rw (p.1, p.2) (record {
-      says = λ As long stand. record { agree = owner_bad _ _ As _ _ _ _ _ _ _ c.loop-k-test.true c.row_after-origin.ensures _ (sym long) (c.loop-k.invariant.0 As long stand) _ c.in_err-owner.ensures.says };
-      within = tt;
-    })
+pub returns-in_err-owner-clause-says : goal.returns-in_err-owner-clause-says
+returns-in_err-owner-clause-says c As long stand =
+    passed_on _ _ _ _ c.from_residual-in_err-owner.ensures.1 (owner_bad _ _ As _ _ _ _ _ _ _ c.loop-k-test.true c.row_after-origin.ensures _ (sym long) (c.loop-k.invariant.0 As long stand) _ c.in_err-owner.ensures.says)
 
-pub returns-in_err-end : goal.returns-in_err-end
-returns-in_err-end c =
-    let p = err_from_is_err_and c.from_residual-in_err-end.result c.from_residual-in_err-end.ensures.1 in
+pub returns-in_err-end-clause-says : goal.returns-in_err-end-clause-says
+returns-in_err-end-clause-says c =
     let h = c.in_ok-owner.ensures in
-    rw (p.1, p.2) (record {
-      says = λ As long stand.
-          let below : c.in_ok-owner.owner < length As = omega (arith, h.within.1) in
-          record { agree = row_bad _ _ As _ _ _ _ _ _ _ c.loop-k-test.true c.row_after-origin.ensures _ (sym long) (c.loop-k.invariant.0 As long stand) _ _ h.says (c.in_err-end.ensures.says _ (stand.begin _ below)).agree };
-      within = tt;
-    })
+    λ As long stand.
+    let below : c.in_ok-owner.owner < length As = omega (arith, h.within.1) in passed_on _ _ _ _ c.from_residual-in_err-end.ensures.1 (row_bad _ _ As _ _ _ _ _ _ _ c.loop-k-test.true c.row_after-origin.ensures _ (sym long) (c.loop-k.invariant.0 As long stand) _ _ h.says (c.in_err-end.ensures.says _ (stand.begin _ below)).agree)
 
 pub loop-k-preserved : goal.loop-k-preserved
 loop-k-preserved c =
@@ -45,12 +34,9 @@ loop-k-preserved c =
       c.loop-k.invariant.2,
     )
 
-pub returns : goal.returns
-returns c =
+pub returns-clause-says : goal.returns-clause-says
+returns-clause-says c =
     let same : c.loop-k.k ≡ c.in_ok-count.count = omega (arith, c.loop-k.auto.k-end) in
-    record {
-      says = λ As long stand.
-          let g = c.loop-k.invariant.0 As long stand in
-          answers _ _ _ _ _ (going_all _ _ _ _ _ _ _ c.loop-k-test.false g) (g.count ∙ same, refl, refl);
-      within = (c.loop-k.invariant.2, c.loop-k.invariant.1);
-    }
+    λ As long stand.
+    let g = c.loop-k.invariant.0 As long stand in
+    answers _ _ _ _ _ (going_all _ _ _ _ _ _ _ c.loop-k-test.false g) (g.count ∙ same, refl, refl)

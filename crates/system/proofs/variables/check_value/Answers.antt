@@ -1,12 +1,11 @@
 use Rattle.std.proofs.Common.{◌≡◌, ◌∙◌, w16, to_z, of_z, rules}
-use Rattle.std.proofs.lemmas.Result.{err_from_is_err_and}
+use Rattle.scan.proofs.Runs.{passed_on}
 use Rattle.system.proofs.Sections.{value_bad, value_read}
 use Rattle.system.proofs.variables.check_value.Goals as goal
 
 pub returns-in_err-two_bytes-clause-says : goal.returns-in_err-two_bytes-clause-says
 returns-in_err-two_bytes-clause-says c =
-    let p = err_from_is_err_and c.from_residual.result c.from_residual.ensures.1 in
-    rw (p.1, p.2) (record { agree = value_bad _ _ _ _ c.in_err-two_bytes.ensures.says })
+    passed_on _ _ _ _ c.from_residual.ensures.1 (value_bad _ _ _ _ c.in_err-two_bytes.ensures.says)
 
 pub returns-clause-says : goal.returns-clause-says
 returns-clause-says c =

@@ -1,7 +1,7 @@
 use Rattle.std.proofs.Common.{sym, ap, ◌∙◌}
-use Rattle.std.proofs.lemmas.Result.{err_from_is_err_and}
 use Rattle.scan.specs.Scan.{bad}
 use Rattle.system.specs.Scan.{is_in, event_in}
+use Rattle.scan.proofs.Runs.{passed_on}
 use Rattle.system.proofs.HeadParts.{contained}
 use Rattle.system.proofs.Numbers.{both_bad, both_fails, both_read}
 use Rattle.system.proofs.transitions.Row.check_event.Goals as goal
@@ -9,8 +9,7 @@ use Rattle.system.proofs.transitions.Row.check_event.Goals as goal
 pub returns-in_err-e-clause-says : goal.returns-in_err-e-clause-says
 unfolding event_in
 returns-in_err-e-clause-says c A h =
-    let p = err_from_is_err_and c.from_residual.result c.from_residual.ensures.1 in
-    rw (p.1, p.2) (record { agree = both_bad _ _ _ _ _ _ _ c.in_err-e.ensures.says })
+    passed_on _ _ _ _ c.from_residual.ensures.1 (both_bad _ _ _ _ _ _ _ c.in_err-e.ensures.says)
 
 pub returns-then-contains-clause-says : goal.returns-then-contains-clause-says
 unfolding event_in
