@@ -61,6 +61,7 @@ fn read_two(text: &[u8]) -> Option<(Name, &[u8])>
 }
 
 // A name, with nothing behind it that carries a word on.
+// Not one chain of `or_else`: most links would be a closure with a `map` inside, which reads no plainer.
 pub fn read_name(text: &[u8]) -> Option<(Name, &[u8])>
     ensures { Reads names text.now result }
 {
