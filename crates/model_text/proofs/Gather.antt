@@ -1,8 +1,10 @@
 -- A model is gathered from its lines, so that no two models have the same.
-use Rattle.std.proofs.Common.{◌≡◌, ℕ, zero, suc, ◌≤◌, cond, eqb, List, [], ◌∷◌, ◌++◌, map, length, get_or, take, ℤ, sym, refl, ap, ◌∙◌, append_assoc, add-one, arith}
+use Rattle.std.proofs.Common.{◌≡◌, ℕ, zero, suc, ◌≤◌, cond, eqb, List, [], ◌∷◌, ◌++◌, length, get_or, take, ℤ, sym, refl, ap, ◌∙◌, add-one, arith}
 use lib.Signed.{mag}
 use Rattle.std.specs.List.{flat_map}
 use Rattle.std.proofs.lemmas.List.{append-nil, take_all, take_more}
+use Rattle.std.proofs.lemmas.List.Folds.{flat_map-map}
+use Rattle.std.proofs.lemmas.Grind.{flat_map-append}
 use Rattle.model_text.specs.declared.words.Name.{Name}
 use Rattle.model_text.specs.declared.words.Constraint.{Constraint}
 use Rattle.model_text.specs.declared.words.Constraint.TheVariants.{Start, Step, Always, Reachable}
@@ -11,14 +13,6 @@ use Rattle.model_text.specs.Trees.{expr, Tree}
 use Rattle.model_text.specs.Lists.{up_to}
 use Rattle.model_text.specs.Lines.{Definition, Line, rule, heading, range, define, constrain}
 use Rattle.model_text.specs.Models.{Model, no_span, lines}
-
-joined-append : {X A : Type 0} (f : X → List A) (xs ys : List X) → flat_map f (xs ++ ys) ≡ flat_map f xs ++ flat_map f ys
-joined-append f [] ys = refl
-joined-append f (x ∷ xs) ys = ap (λ z. f x ++ z) (joined-append f xs ys) ∙ sym (append_assoc (f x) (flat_map f xs) (flat_map f ys))
-
-joined-map : {X Y A : Type 0} (f : Y → List A) (g : X → Y) (xs : List X) → flat_map f (map g xs) ≡ flat_map (λ x. f (g x)) xs
-joined-map f g [] = refl
-joined-map f g (x ∷ xs) = ap (λ z. f (g x) ++ z) (joined-map f g xs)
 
 joined-none : {X A : Type 0} (xs : List X) → flat_map {X = X} {A = A} (λ _. []) xs ≡ []
 joined-none [] = refl
@@ -30,7 +24,7 @@ joined-each (x ∷ xs) = ap (λ z. x ∷ z) (joined-each xs)
 
 joined-up_to : {X A : Type 0} (f : X → List A) (n : ℕ) (g : ℕ → List X) → flat_map f (up_to n g) ≡ up_to n (λ k. flat_map f (g k))
 joined-up_to f zero g = refl
-joined-up_to f (suc n) g = joined-append f (up_to n g) (g n) ∙ ap (λ z. z ++ flat_map f (g n)) (joined-up_to f n g)
+joined-up_to f (suc n) g = flat_map-append f (up_to n g) (g n) ∙ ap (λ z. z ++ flat_map f (g n)) (joined-up_to f n g)
 
 up_to_none : {A : Type 0} (n : ℕ) → up_to {A = A} n (λ _. []) ≡ []
 up_to_none zero = refl
@@ -73,7 +67,7 @@ rank Reachable = 3
 abbrev guard_in : ℕ → Line → List (Tree expr)
 guard_in n l = from (λ _. []) (λ _ _ _. []) (λ _. []) (λ c g. cond (eqb (rank c) n) (g ∷ []) []) l
 
-ruleset gathers = (joined-append, joined-map, joined-up_to, joined-none, joined-each, up_to_none, up_to_each, append-nil)
+ruleset gathers = (flat_map-append, flat_map-map, joined-up_to, joined-none, joined-each, up_to_none, up_to_each, append-nil)
 
 module _ (M : Model) where
   rule_of : flat_map rule_in (lines M) ≡ M.rule ∷ []

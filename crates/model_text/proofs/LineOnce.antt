@@ -163,11 +163,11 @@ pub one_line : (l m : Line) (r q : List ℕ) → GoodLine l → GoodLine m → l
 one_line l m r q g h e = one_on l m r q g h (sym (line_on_lem l r) ∙ e ∙ line_on_lem m q)
 
 some_head : (l : Line) → none ≡ head l → ⊥
-some_head (rule n) e = let z : ◌≡◌ {A = ℕ} 0 1 = cc in omega arith
-some_head (heading h) e = let z : ◌≡◌ {A = ℕ} 0 1 = cc in omega arith
-some_head (range x a b) e = let z : ◌≡◌ {A = ℕ} 0 1 = cc in omega arith
-some_head (define d) e = let z : ◌≡◌ {A = ℕ} 0 1 = cc in omega arith
-some_head (constrain c g) e = let z : ◌≡◌ {A = ℕ} 0 1 = cc in omega arith
+some_head (rule n) e = cc
+some_head (heading h) e = cc
+some_head (range x a b) e = cc
+some_head (define d) e = cc
+some_head (constrain c g) e = cc
 
 no_line : (l : Line) (r : List ℕ) → GoodLine l → [] ≡ line_on l r → ⊥
 no_line l r g e = let z : none ≡ head l = ap head_of e ∙ head_of_lem l r g in some_head l z

@@ -1,10 +1,11 @@
 -- Words are spelled apart, and their end is seen.
-use Rattle.std.proofs.Common.{◌≡◌, ℕ, ◌+◌, ◌-◌, ◌*◌, ◌^◌, ◌<◌, ◌≤◌, Bool, true, false, cond, eqb, ltb, List, [], ◌∷◌, ◌++◌, get_or, drop, decimal, sym, refl, ap, ◌∙◌, inl, inr, append_assoc, arith, rules}
+use Rattle.std.proofs.Common.{◌≡◌, ℕ, ◌^◌, ◌<◌, ◌≤◌, Bool, true, false, cond, eqb, ltb, List, [], ◌∷◌, ◌++◌, get_or, drop, decimal, sym, refl, ap, ◌∙◌, inl, inr, append_assoc, arith}
 use Rattle.std.specs.List.{AllByRecursion as All}
 use Rattle.std.specs.Str.{all_ascii_digits}
+use Rattle.std.specs.Str.Parse.{digits_value}
 use Rattle.std.proofs.lemmas.Fmt.{digits_value-decimal}
 use Rattle.std.proofs.ByRecursion.{All-append, All-weaker}
-use Rattle.std.proofs.lemmas.Str.Parse.{IsNumeralModel, numerals_by_fold}
+use Rattle.std.proofs.lemmas.Str.Parse.{IsNumeralModel, numerals_by_value, tells_all_ascii_digits}
 use Rattle.std.proofs.lemmas.Bool.{lt-ltb, ne_eqb}
 use Rattle.expr.specs.Text.{truth_text}
 use Rattle.model_text.specs.declared.words.Single.{Single}
@@ -62,12 +63,8 @@ double-form JoinedStatus = refl
 double-form JoinedValue = refl
 double-form Open = refl
 
-abbrev read_on : ℕ → List ℕ → ℕ
-read_on n [] = n
-read_on n (c ∷ cs) = read_on (10 * n + (c - 48)) cs
-
-own : IsNumeralModel (λ ds. all_ascii_digits ds ≡ true) (read_on 0)
-own = numerals_by_fold _ (search rules) read_on (search rules)
+own : IsNumeralModel (λ ds. all_ascii_digits ds ≡ true) (digits_value 10)
+own = numerals_by_value _ tells_all_ascii_digits
 
 -- the parts of a text at its first underscore
 abbrev before : List ℕ → List ℕ
@@ -89,11 +86,11 @@ after_is (d ∷ ds) r a = let f = a.0 in rw (ne_eqb d 95 (λ e. omega arith)) (a
 -- the word that is spelled so
 abbrev word_by : Form → List ℕ → Word
 word_by (truth b) xs = W.Truth b
-word_by number xs = W.Number (read_on 0 xs)
+word_by number xs = W.Number (digits_value 10 xs)
 word_by event xs = W.Name N.Event
 word_by marked xs = W.Name N.Marked
-word_by (one x) xs = W.Name (N.One x (read_on 0 (drop 1 xs)))
-word_by (two x) xs = W.Name (N.Two x (read_on 0 (before (drop 1 xs))) (read_on 0 (after (drop 1 xs))))
+word_by (one x) xs = W.Name (N.One x (digits_value 10 (drop 1 xs)))
+word_by (two x) xs = W.Name (N.Two x (digits_value 10 (before (drop 1 xs))) (digits_value 10 (after (drop 1 xs))))
 
 abbrev word_of : List ℕ → Word
 word_of xs = word_by (form_at (get_or xs 0 0)) xs

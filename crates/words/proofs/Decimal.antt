@@ -3,10 +3,12 @@ use Rattle.std.proofs.Common.{◌≡◌, ℕ, ◌^◌, ◌<◌, ◌≤◌, ◌�
 use Rattle.std.specs.Result.{result_ok, OkIff}
 use Rattle.std.specs.Str.{IsUtf8}
 use Rattle.std.specs.Str.Parse.{digits_value}
-use Rattle.std.specs.List.{AllByRecursion as All, AllWithin, HoldsAt}
+use Rattle.std.specs.List.{All, AllByRecursion, AllWithin, HoldsAt}
 use Rattle.std.proofs.lemmas.List.{take-append-drop, drop_more, drop_all, get_or-take}
 use Rattle.std.proofs.lemmas.Str.{IsUtf8-from_ascii}
-use Rattle.std.proofs.ByRecursion.{All-from_get_or, All-weaker, IsAscii-from_all}
+use Rattle.std.proofs.lemmas.List.Elements.{All-nil, All-cons, All-head, All-tail, All-weaker, All-from_get_or, recursion_from_All}
+use Rattle.std.proofs.lemmas.Str.Ascii.{IsAscii-from_all}
+use Rattle.std.proofs.ByRecursion.{All-weaker as weaker}
 use Rattle.std.proofs.lemmas.Bool.{cases_lt, cases_eq}
 use Rattle.std.proofs.lemmas.Str.Parse.{IsNumeralModel, numerals_by_value}
 use Rattle.std.proofs.lemmas.Fmt.{decimal-digits_value, decimal_injective, digits_value-decimal, decimal_nonempty, decimal_digit, first_decimal}
@@ -16,7 +18,11 @@ use Rattle.words.specs.Forms.{numbers}
 use Rattle.words.specs.Readings.{Found, Nothing}
 
 pub own : IsNumeralModel (λ ds. All Digit ds) (digits_value 10)
-own = numerals_by_value (λ ds. All Digit ds) (record { empty = tt; parts = λ c cs h. ((h.0.low, h.0.high), h.1); more = λ c cs i h. (record { low = i.0; high = i.1 }, h) })
+own = numerals_by_value (λ ds. All Digit ds) (record {
+  empty = All-nil Digit;
+  parts = λ c cs h. let d = All-head Digit c cs h in ((d.low, d.high), All-tail Digit c cs h);
+  more = λ c cs i h. All-cons Digit c cs (record { low = i.0; high = i.1 }) h;
+})
 
 digits_utf8 : (ds : List ℕ) → All Digit ds → IsUtf8 ds
 digits_utf8 ds all = IsUtf8-from_ascii ds (IsAscii-from_all ds (All-weaker Digit (λ b. b < 128) (λ b d. omega (arith, d.high)) ds all))
@@ -45,11 +51,11 @@ halts : (rest : List ℕ) → NoDigit rest → Halts Digit rest
 halts [] h = tt
 halts (b ∷ rest) h = h
 
-all_digits : (n : ℕ) → n < 2 ^ 64 → All Digit (decimal n)
-all_digits n h = All-weaker _ Digit (λ b d. record { low = d.low; high = d.high }) (decimal n) (digits_all n h)
+all_digits : (n : ℕ) → n < 2 ^ 64 → AllByRecursion Digit (decimal n)
+all_digits n h = weaker _ Digit (λ b d. record { low = d.low; high = d.high }) (decimal n) (digits_all n h)
 
 -- digits and what follows them are told apart in one way
-split : (xs ys r q : List ℕ) → All Digit xs → All Digit ys → NoDigit r → NoDigit q → xs ++ r ≡ ys ++ q → (xs ≡ ys) × (r ≡ q)
+split : (xs ys r q : List ℕ) → AllByRecursion Digit xs → AllByRecursion Digit ys → NoDigit r → NoDigit q → xs ++ r ≡ ys ++ q → (xs ≡ ys) × (r ≡ q)
 split xs ys r q a b c d e = munch Digit xs ys r q a b (halts r c) (halts q d) e
 
 pub one_number : (m n : ℕ) (r q : List ℕ) → m < 2 ^ 64 → n < 2 ^ 64 → NoDigit r → NoDigit q → decimal m ++ r ≡ decimal n ++ q → (m ≡ n) × (r ≡ q)
@@ -60,7 +66,7 @@ one_number m n r q g h s t e =
 module _ (s digits rest : List ℕ) (run : Run s digits rest) where
   -- a number that stands there is the run
   matches : (n : ℕ) (r : List ℕ) → n < 2 ^ 64 → NoDigit r → s ≡ decimal n ++ r → digits ≡ decimal n
-  matches n r small follow t = (split digits (decimal n) rest r run.all (all_digits n small) run.ends follow (sym run.splits ∙ t)).0
+  matches n r small follow t = (split digits (decimal n) rest r (recursion_from_All Digit digits run.all) (all_digits n small) run.ends follow (sym run.splits ∙ t)).0
 
   module _ (max : ℕ) (small : max < 2 ^ 32) where
     pub zero_led : get_or digits 0 0 ≡ 48 → 1 < length digits → Nothing (numbers max) s

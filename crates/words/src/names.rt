@@ -46,8 +46,8 @@ fn read_numbered(text: &[u8]) -> Option<((Single, u16), &[u8])>
 fn read_one(text: &[u8]) -> Option<(Name, &[u8])>
     ensures { Reads ones text.now result }
 {
-    let ((letter, n), rest) = read_numbered(text)?;
-    is_stopped(rest).then_some((Name::One(letter, n), rest))
+    let ((letter, number), rest) = read_numbered(text)?;
+    is_stopped(rest).then_some((Name::One(letter, number), rest))
 }
 
 fn read_two(text: &[u8]) -> Option<(Name, &[u8])>
@@ -61,6 +61,7 @@ fn read_two(text: &[u8]) -> Option<(Name, &[u8])>
 }
 
 // A name, with nothing behind it that carries a word on.
+// Not one chain of `or_else`: most links would be a closure with a `map` inside, which reads no plainer.
 pub fn read_name(text: &[u8]) -> Option<(Name, &[u8])>
     ensures { Reads names text.now result }
 {
@@ -77,9 +78,9 @@ pub fn read_name(text: &[u8]) -> Option<(Name, &[u8])>
 pub fn read_next_name(text: &[u8]) -> Option<((Single, u16), &[u8])>
     ensures { Reads nexts text.now result }
 {
-    let (name, rest) = read_numbered(text)?;
-    if !name.0.has_next() {
+    let ((letter, number), rest) = read_numbered(text)?;
+    if !letter.has_next() {
         return None;
     }
-    Some((name, expect(rest, b")")?))
+    Some(((letter, number), expect(rest, b")")?))
 }

@@ -1,5 +1,5 @@
 // Numbers in decimal.
-ghost use Rattle.std.specs.List.{AllByRecursion as All};
+ghost use Rattle.std.specs.Prelude.{All};
 ghost use Rattle.words.specs.Digits.{Digit, Run, Spells};
 ghost use Rattle.words.specs.Forms.{numbers, signeds, minuses};
 ghost use Rattle.words.specs.Readings.{Reads};

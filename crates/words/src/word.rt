@@ -7,6 +7,7 @@ use crate::numbers::read_number;
 use model_text::Word;
 
 // A word, with nothing behind it that carries it on.
+// Not a chain of `or_else`: each link would be a closure with a `map` inside, which reads no plainer.
 pub fn read_word(text: &[u8]) -> Option<(Word, &[u8])>
     ensures { Reads words text.now result }
 {
