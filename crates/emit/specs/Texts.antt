@@ -14,7 +14,7 @@ use Rattle.model_text.specs.Lists.{up_to}
 use Rattle.model_text.specs.Words.{name_text}
 use Rattle.model_text.specs.Trees as T
 use Rattle.model_text.specs.Lines.{define, constrain, range, line_text}
-use Rattle.translation.specs.Systems.{automaton, variable, is_in, is_plant, sought, controlled}
+use Rattle.translation.specs.Systems.{automaton, variable, is_in, is_plant, controlled}
 use Rattle.translation.specs.Written.{name, count, number, written, variable_name, join_name, settle_name, is_at, is_not}
 use Rattle.translation.specs.Cases.{either_case, wish_case, opening, openings, marked_at}
 use Rattle.translation.specs.Translate.{outside, taken, both, either, equal, unmarked_values}
@@ -63,12 +63,6 @@ entry_text n g = T.print g ++ (codes " : " ++ (decimal n ++ codes "; "))
 abbrev pub wish_entry : (Expr term → T.Tree T.expr) → ℕ → ℕ → ℕ → Option (Expr term) → List ℕ
 wish_entry f i k j none = []
 wish_entry f i k j (some e) = T.print (is_at (N.One Choice k) j) ++ (codes " : " ++ (T.print (f e) ++ codes "; "))
-
-abbrev pub status_entry : ℕ → ℕ → ℕ → Transition → List ℕ
-status_entry i k j t = wish_entry (λ _. count 1) i k j (sought i t.updates)
-
-abbrev pub value_entry : ℕ → ℕ → ℕ → Transition → List ℕ
-value_entry i k j t = wish_entry (written variable_name) i k j (sought i t.updates)
 
 abbrev pub status_text : ℕ → ℕ → Automaton → List ℕ
 status_text i k A = definition_text (N.Two WishStatus i k) (T.choose (wish_case (λ _. count 1) i k 1 A.transitions))

@@ -1,2 +1,1 @@
 pub mod AnyBelow
-pub mod Values
