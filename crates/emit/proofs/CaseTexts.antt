@@ -6,12 +6,14 @@ use Rattle.expr.specs.Expr.{Expr, term}
 use Rattle.system.specs.System.{Transition}
 use Rattle.model_text.specs.declared.words.Single.TheVariants.{Choice, Location}
 use Rattle.model_text.specs.declared.words.Name.TheVariants as N
+use Rattle.model_text.specs.declared.words.Name.{Name}
+use Rattle.model_text.specs.Words.{name_text}
 use Rattle.model_text.specs.Lists.{up_to}
 use Rattle.model_text.specs.Trees as T
 use Rattle.translation.specs.Systems.{sought}
 use Rattle.translation.specs.Written.{is_at}
 use Rattle.translation.specs.Cases.{either_case, only_if, entry_if, wish_case, opening, openings, marked_at}
-use Rattle.emit.specs.Texts.{entry_text, entries_text, last_text, wish_entry, open_entry}
+use Rattle.emit.specs.Texts.{definition_text, case_text, entry_text, entries_text, last_text, wish_entry, open_entry}
 
 -- an entry, guard g and value v, in front of others and the last one
 entry_first : (g v es last : List ℕ) → g ++ (codes " : " ++ (v ++ (codes "; " ++ (es ++ last)))) ≡ ((g ++ (codes " : " ++ (v ++ codes "; "))) ++ es) ++ last
@@ -23,6 +25,12 @@ module _ (n : ℕ) where
   case_entries m (g ∷ gs) =
       ap (λ z. T.print g ++ (codes " : " ++ (decimal n ++ (codes "; " ++ z)))) (case_entries m gs)
       ∙ entry_first (T.print g) (decimal n) (entries_text n gs) (last_text m)
+
+  -- the line of a name that is defined as a case with these entries
+  pub case_definition : (x : Name) (m : ℕ) (gs : List (T.Tree T.expr)) (es : List ℕ) → entries_text n gs ≡ es → definition_text x (T.choose (either_case n m gs)) ≡ case_text x es m
+  case_definition x m gs es are =
+      ap (λ z. name_text x ++ (codes " := (case " ++ (z ++ codes ";\n"))) (case_entries m gs ∙ ap (λ z. z ++ last_text m) are)
+      ∙ ap (λ z. name_text x ++ (codes " := (case " ++ z)) (append_assoc es (last_text m) (codes ";\n"))
 
   pub entries_append : (gs hs : List (T.Tree T.expr)) → entries_text n (gs ++ hs) ≡ entries_text n gs ++ entries_text n hs
   entries_append [] hs = refl
@@ -57,8 +65,10 @@ module _ (f : Expr term → T.Tree T.expr) (i k : ℕ) where
       wish_first (j + 1) (sought i t.updates) (wish_case f i k (suc (j + 1)) ts) (each wish (j + 1) ts) (last_text 0)
       (ap (λ p. T.print (wish_case f i k p ts)) (sym (add-one (j + 1))) ∙ wishes_from (j + 1) ts)
 
-  pub case_wishes : (ts : List Transition) → T.print (wish_case f i k 1 ts) ≡ each (λ j t. wish_entry f i k (j + 1) (sought i t.updates)) 0 ts ++ last_text 0
-  case_wishes ts = wishes_from 0 ts
+  pub wish_definition : (x : Name) (ts : List Transition) → definition_text x (T.choose (wish_case f i k 1 ts)) ≡ case_text x (each (λ j t. wish_entry f i k (j + 1) (sought i t.updates)) 0 ts) 0
+  wish_definition x ts =
+      ap (λ z. name_text x ++ (codes " := (case " ++ (z ++ codes ";\n"))) (wishes_from 0 ts)
+      ∙ ap (λ z. name_text x ++ (codes " := (case " ++ z)) (append_assoc (each wish 0 ts) (last_text 0) (codes ";\n"))
 
 module _ (e k : ℕ) where
   openings_from : (j : ℕ) (ts : List Transition) → entries_text 1 (openings e k ts) ≡ each (λ _ t. open_entry e k t) j ts

@@ -17,14 +17,14 @@ use Rattle.model_text.specs.Trees as T
 use Rattle.model_text.specs.Lines.{Line, rule, heading, range, define, constrain, line_text}
 use Rattle.model_text.specs.Models.{count_ranges, value_ranges, no_span, span_range, declarations, text}
 use Rattle.translation.specs.Systems.{automaton, zero_variable, idle_transition, span, ranges}
-use Rattle.translation.specs.Cases.{either_case, only_if}
+use Rattle.translation.specs.Cases.{only_if}
 use Rattle.translation.specs.Translate as M
 use Rattle.emit.specs.Texts as Texts
 use Rattle.emit.specs.Texts.{entries_text, last_text}
 use Rattle.emit.specs.Whole.{GroupsAreWhole}
 use Rattle.emit.proofs.Sent.{joined-append, joined-up_to}
 use Rattle.emit.proofs.ByIndex.{joined-map, joined_by, joined-ones, up_to_map, first-each}
-use Rattle.emit.proofs.CaseTexts.{case_entries, entries_append, entries_up_to, entries_only_if}
+use Rattle.emit.proofs.CaseTexts.{case_definition, entries_append, entries_up_to, entries_only_if}
 
 abbrev lines_text : List Line → List ℕ
 lines_text ls = flat_map line_text ls
@@ -64,13 +64,6 @@ joined-five f a b c d e = simp joined-append
 regroup : (a b c d e : List ℕ) → (a ++ b) ++ ((c ++ d) ++ e) ≡ a ++ (b ++ (c ++ (d ++ e)))
 regroup a b c d e = simp append_assoc
 
--- the definition whose case has these entries
-case_text_lem : (x es : List ℕ) (n m : ℕ) (gs : List (T.Tree T.expr)) → entries_text n gs ≡ es
-    → x ++ (codes " := " ++ (T.print (T.choose (either_case n m gs)) ++ codes ";\n")) ≡ x ++ (codes " := (case " ++ (es ++ (last_text m ++ codes ";\n")))
-case_text_lem x es n m gs e =
-    ap (λ z. x ++ (codes " := (case " ++ (z ++ codes ";\n"))) (case_entries n m gs ∙ ap (λ z. z ++ last_text m) e)
-    ∙ ap (λ z. x ++ (codes " := (case " ++ z)) (append_assoc es (last_text m) (codes ";\n"))
-
 module _ (S : System) (R : ClashRule) where
   abbrev said : Name → List ℕ
   said x = line_text (define (M.defined S R x))
@@ -90,17 +83,13 @@ module _ (S : System) (R : ClashRule) where
       ∙ (λ l. joined_by said (M.automata S R) (M.wish_names S R i) (wishes_same i) l ++ (said (N.One SettledValue i) ++ append-nil (said (N.One Permission i)) l))
 
   plants_same : (e : ℕ) → said (N.One PlantsOpen e) ≡ Texts.plants_text S e
-  plants_same e = case_text_lem (codes "p" ++ decimal e) (up_to (M.automata S R) (λ k. Texts.plant_entry e k (automaton S k))) 0 1 (M.shut_plants S R e) (simp (entries_up_to, entries_only_if))
+  plants_same e = case_definition 0 (N.One PlantsOpen e) 1 (M.shut_plants S R e) _ (simp (entries_up_to, entries_only_if))
 
   events_same : (e : ℕ) → flat_map said (M.event_names S R e) ≡ Texts.event_text S e
   events_same e = simp (joined-cond, joined-append, joined-up_to, joined-only_if, append-nil, plants_same)
 
   marked_same : said N.Marked ≡ Texts.marked_text S R
-  marked_same =
-      let locations = Texts.of_automata S R Texts.unmarked_location in
-      let values = Texts.of_variables S R Texts.unmarked_value in
-      case_text_lem (codes "mk") (locations ++ values) 0 1 (M.unmarked S R) (simp (entries_append, entries_up_to, append-nil))
-      ∙ ap (λ z. codes "mk := (case " ++ z) (append_assoc locations values (last_text 1 ++ codes ";\n"))
+  marked_same = case_definition 0 N.Marked 1 (M.unmarked S R) _ (simp (entries_append, entries_up_to, append-nil))
 
   definitions_same : lines_text (map define (map (M.defined S R) (M.names S R))) ≡ Texts.definitions_text S R
   definitions_same =

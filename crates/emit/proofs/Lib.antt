@@ -5,3 +5,4 @@ pub mod Turns
 pub mod CaseTexts
 pub mod ByIndex
 pub mod GroupsWhole
+pub mod Values

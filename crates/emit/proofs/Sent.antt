@@ -1,5 +1,6 @@
 -- What a sink has taken after several calls, and after the turns of a loop.
-use Rattle.std.proofs.Common.{◌≡◌, ℕ, zero, suc, ◌+◌, List, [], ◌∷◌, ◌++◌, fold, sym, refl, ap, ◌∙◌, append_assoc, add-one}
+use Rattle.std.proofs.Common.{◌≡◌, ℕ, zero, suc, ◌+◌, List, [], ◌∷◌, ◌++◌, decimal, fold, sym, refl, ap, ◌∙◌, append_assoc, append-nil, add-one, arith}
+use Rattle.std.proofs.lemmas.Fmt.{decimal_digit}
 use Rattle.std.specs.List.{flat_map}
 use Rattle.sinks.proofs.Folds.{folded_append}
 use Rattle.model_text.specs.Lists.{up_to}
@@ -39,3 +40,13 @@ joined-append f (x ∷ xs) ys = ap (λ z. f x ++ z) (joined-append f xs ys) ∙ 
 pub joined-up_to : {X A : Type 0} (f : X → List A) (n : ℕ) (F : ℕ → List X) → flat_map f (up_to n F) ≡ up_to n (λ k. flat_map f (F k))
 joined-up_to f zero F = refl
 joined-up_to f (suc n) F = joined-append f (up_to n F) (F n) ∙ ap (λ z. z ++ flat_map f (F n)) (joined-up_to f n F)
+
+-- a number of one digit
+pub zero_digit : decimal 0 ≡ 48 ∷ []
+zero_digit = decimal_digit 0 (omega arith)
+
+pub one_digit : decimal 1 ≡ 49 ∷ []
+one_digit = decimal_digit 1 (omega arith)
+
+-- what brings texts one after another into one form
+pub ruleset texts = (folded_append, append_assoc, append-nil, zero_digit, one_digit)

@@ -11,9 +11,10 @@ use Rattle.model_text.specs.declared.words.Name.{Name}
 use Rattle.model_text.specs.declared.words.Name.TheVariants as N
 use Rattle.model_text.specs.declared.words.Constraint.TheVariants.{Start, Step, Always}
 use Rattle.model_text.specs.Lists.{up_to}
+use Rattle.model_text.specs.Words.{name_text}
 use Rattle.model_text.specs.Trees as T
 use Rattle.model_text.specs.Lines.{define, constrain, range, line_text}
-use Rattle.translation.specs.Systems.{automaton, variable, is_in, is_plant, sought, controlled}
+use Rattle.translation.specs.Systems.{automaton, variable, is_in, is_plant, controlled}
 use Rattle.translation.specs.Written.{name, count, number, written, variable_name, join_name, settle_name, is_at, is_not}
 use Rattle.translation.specs.Cases.{either_case, wish_case, opening, openings, marked_at}
 use Rattle.translation.specs.Translate.{outside, taken, both, either, equal, unmarked_values}
@@ -23,6 +24,14 @@ definition_text x e = line_text (define (record { name = x; body = e }))
 
 abbrev pub step_text : T.Tree T.expr → List ℕ
 step_text g = line_text (constrain Step g)
+
+-- `TRUE : 1; esac)` ends a case
+abbrev pub last_text : ℕ → List ℕ
+last_text m = codes "TRUE : " ++ (decimal m ++ codes "; esac)")
+
+-- the definition of a name as a case with these entries, and else a number
+abbrev pub case_text : Name → List ℕ → ℕ → List ℕ
+case_text x es m = name_text x ++ (codes " := (case " ++ (es ++ (last_text m ++ codes ";\n")))
 
 -- the choices of an automaton: its definitions, its steps, their range
 abbrev pub stay_text : ℕ → List ℕ → List ℕ
@@ -54,12 +63,6 @@ entry_text n g = T.print g ++ (codes " : " ++ (decimal n ++ codes "; "))
 abbrev pub wish_entry : (Expr term → T.Tree T.expr) → ℕ → ℕ → ℕ → Option (Expr term) → List ℕ
 wish_entry f i k j none = []
 wish_entry f i k j (some e) = T.print (is_at (N.One Choice k) j) ++ (codes " : " ++ (T.print (f e) ++ codes "; "))
-
-abbrev pub status_entry : ℕ → ℕ → ℕ → Transition → List ℕ
-status_entry i k j t = wish_entry (λ _. count 1) i k j (sought i t.updates)
-
-abbrev pub value_entry : ℕ → ℕ → ℕ → Transition → List ℕ
-value_entry i k j t = wish_entry (written variable_name) i k j (sought i t.updates)
 
 abbrev pub status_text : ℕ → ℕ → Automaton → List ℕ
 status_text i k A = definition_text (N.Two WishStatus i k) (T.choose (wish_case (λ _. count 1) i k 1 A.transitions))
@@ -96,12 +99,8 @@ open_text e k A = cond (is_in e A.alphabet) (definition_text (N.Two Open e k) (T
 abbrev pub plant_entry : ℕ → ℕ → Automaton → List ℕ
 plant_entry e k A = cond (is_plant A.role && is_in e A.alphabet) (entry_text 0 (is_at (N.Two Open e k) 0)) []
 
--- `TRUE : 1; esac)` ends a case
-abbrev pub last_text : ℕ → List ℕ
-last_text m = codes "TRUE : " ++ (decimal m ++ codes "; esac)")
-
 abbrev pub plants_text : System → ℕ → List ℕ
-plants_text S e = codes "p" ++ (decimal e ++ (codes " := (case " ++ (up_to (length S.automata) (λ k. plant_entry e k (automaton S k)) ++ (last_text 1 ++ codes ";\n"))))
+plants_text S e = case_text (N.One PlantsOpen e) (up_to (length S.automata) (λ k. plant_entry e k (automaton S k))) 1
 
 abbrev pub event_text : System → ℕ → List ℕ
 event_text S e = cond (controlled S e) (up_to (length S.automata) (λ k. open_text e k (automaton S k)) ++ plants_text S e) []
@@ -155,7 +154,7 @@ module _ (S : System) (R : ClashRule) where
       ++ (of_automata choice_range ++ (codes "VAR\n" ++ (of_automata location_range ++ (of_variables value_range ++ codes "DEFINE\n"))))))))
 
   abbrev pub marked_text : List ℕ
-  marked_text = codes "mk := (case " ++ (of_automata unmarked_location ++ (of_variables unmarked_value ++ (last_text 1 ++ codes ";\n")))
+  marked_text = case_text N.Marked (of_automata unmarked_location ++ of_variables unmarked_value) 1
 
   abbrev pub definitions_text : List ℕ
   definitions_text =

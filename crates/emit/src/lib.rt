@@ -14,5 +14,5 @@ pub use loops::{
 };
 pub use names::{Joining, Settling, put_name};
 pub use parts::{head_of, is_in, kind_of, values_of};
-pub use pieces::{begin_definition, put_compared};
+pub use pieces::{begin_case, begin_definition, end_case, put_compared};
 pub use rows::split_own;

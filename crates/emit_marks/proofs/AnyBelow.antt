@@ -1,16 +1,25 @@
--- A test that is true of a number below n.
-use Rattle.std.proofs.Common.{◌≡◌, ℕ, zero, suc, ◌+◌, ◌<◌, Bool, true, false, ap, ◌∙◌, subst, inl, inr, add-one, arith}
-use Rattle.std.proofs.lemmas.Bool.{cases_eq, or_left, or_right, or_from}
+-- A test that is true of a number below n is true of one in the range up to n.
+use Rattle.std.proofs.Common.{◌≡◌, ℕ, zero, suc, ◌+◌, Bool, true, false, ◌||◌, refl, ap, ◌∙◌, arith}
+use Rattle.std.specs.List.{list_any, range_with_len}
 use Rattle.translation.specs.Systems.{any_below}
 
-module _ (f : ℕ → Bool) where
-  pub any_at : (n k : ℕ) → k < n → f k ≡ true → any_below n f ≡ true
-  any_at zero k h e = absurd (omega arith)
-  any_at (suc n) k h e =
-      elim (cases_eq k n) [
-        | inl same ↦ or_right (any_below n f) (f n) (subst (λ i. f i ≡ true) same e)
-        | inr other ↦ or_left (any_below n f) (f n) (any_at n k (omega arith) e)
-      ]
+or_false : (a : Bool) → a || false ≡ a
+or_false true = refl
+or_false false = refl
 
-  pub none_more : (k : ℕ) → any_below k f ≡ false → f k ≡ false → any_below (k + 1) f ≡ false
-  none_more k below here = ap (λ n. any_below n f) (add-one k) ∙ or_from (any_below k f) (f k) below here
+or_grouped : (a b c : Bool) → a || (b || c) ≡ (a || b) || c
+or_grouped true b c = refl
+or_grouped false b c = refl
+
+module _ (f : ℕ → Bool) where
+  last_apart : (a n : ℕ) → list_any f (range_with_len a (suc n)) ≡ list_any f (range_with_len a n) || f (a + n)
+  last_apart a zero = let e : a ≡ a + 0 = omega arith in or_false (f a) ∙ ap f e
+  last_apart a (suc n) =
+      let e : a + 1 + n ≡ a + suc n = omega arith in
+      ap (λ b. f a || b) (last_apart (a + 1) n) ∙ or_grouped (f a) (list_any f (range_with_len (a + 1) n)) (f (a + 1 + n)) ∙ ap (λ k. (f a || list_any f (range_with_len (a + 1) n)) || f k) e
+
+  pub any_in_range : (n : ℕ) → list_any f (range_with_len 0 n) ≡ any_below n f
+  any_in_range zero = refl
+  any_in_range (suc n) =
+      let e : 0 + n ≡ n = omega arith in
+      last_apart 0 n ∙ ap (λ b. b || f (0 + n)) (any_in_range n) ∙ ap (λ k. any_below n f || f k) e

@@ -1,3 +1,1 @@
 pub mod AnyBelow
-pub mod Pieces
-pub mod Values

@@ -1,24 +1,22 @@
 // The lines of the uncontrollable events.
 ghost use Rattle.std.specs.Prelude.{◌≡◌, fold};
-ghost use Rattle.system.specs.System.{System};
-ghost use Rattle.view.specs.Shown.{ViewOf};
+ghost use Rattle.view.specs.Shown.{system_of};
 ghost use Rattle.emit.specs.Texts.{plants_text, event_text, event_always_text};
 
 use crate::controlled::is_controlled;
 use crate::open::{OpenDefinitions, PlantEntries, SpecificationLines};
-use emit::{NumberText, begin_definition, put_automata};
+use emit::{NumberText, begin_case, end_case, put_automata};
 use model_text::{Name, Single};
-use sinks::{Sink, put_text};
+use sinks::Sink;
 use view::View;
 
 // Whether every plant with the event is open on it.
 fn put_plants<S: Sink>(s: &mut S, view: &View, e: u8)
-    ensures { (sys : System) → ViewOf view.now sys → s.new ≡ fold S.Sink.step s.old (plants_text sys e) }
+    ensures { s.new ≡ fold S.Sink.step s.old (plants_text (system_of view.now) e) }
 {
-    begin_definition(s, Name::One(Single::PlantsOpen, e as u16));
-    put_text(s, b"(case ");
+    begin_case(s, Name::One(Single::PlantsOpen, e as u16));
     put_automata(s, view, &PlantEntries { event: e });
-    put_text(s, b"TRUE : 1; esac);\n");
+    end_case(s, 1);
 }
 
 // What is defined for each event that a plant and a specification share.

@@ -1,5 +1,5 @@
 // Controllability and marking: which transitions are open, which locations and values are marked.
-#![tactic(auto)]
+#![tactic(auto, using(emit::proofs::Sent::texts))]
 
 mod controlled;
 mod events;

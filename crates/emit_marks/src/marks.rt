@@ -2,21 +2,20 @@
 ghost use Rattle.std.specs.Prelude.{◌≡◌, Bool, List, map, fold};
 ghost use Rattle.sinks.specs.Text.{each};
 ghost use Rattle.clash.specs.Rules.{ClashRule};
-ghost use Rattle.system.specs.System.{System};
 ghost use Rattle.system.specs.Encode.{mark_byte};
-ghost use Rattle.view.specs.Shown.{ViewOf};
+ghost use Rattle.view.specs.Shown.{system_of};
 ghost use Rattle.translation.specs.Systems.{variable};
 ghost use Rattle.emit.specs.Texts.{marks_text, unmarked_location, unmarked_value, marked_text};
 ghost use Rattle.emit_marks.specs.Locations.{location_entry};
 
 use emit::{
-    AutomatonText, NumberText, begin_definition, put_automata, put_compared, put_name, put_numbers,
-    values_of,
+    Automaton, AutomatonText, NumberText, begin_case, end_case, put_automata, put_compared,
+    put_name, put_numbers, values_of,
 };
 use expr::code::Order;
 use model_text::{Name, Single};
 use sinks::{Sink, put_number, put_text, put_value};
-use view::{Head, Rows, View};
+use view::View;
 
 // An entry, 1 where the automaton is at the location, if the mark is 1.
 fn put_location<S: Sink>(s: &mut S, k: u8, j: u64, mark: u8)
@@ -35,8 +34,8 @@ fn put_location<S: Sink>(s: &mut S, k: u8, j: u64, mark: u8)
 fn put_locations<S: Sink>(s: &mut S, k: u8, marks: &[u8])
     ensures { (ms : List Bool) → marks.now ≡ map mark_byte ms → s.new ≡ fold S.Sink.step s.old (each (location_entry k) 0 ms) }
 {
-    for j in 0..marks.len() {
-        put_location(s, k, j as u64, marks[j]);
+    for (j, mark) in marks.iter().enumerate() {
+        put_location(s, k, j as u64, *mark);
     }
 }
 
@@ -47,11 +46,11 @@ pub struct LocationMarks;
 impl AutomatonText for LocationMarks {
     ghost text = { λ _ k A. marks_text k A };
 
-    fn put<S: Sink>(&self, s: &mut S, k: u8, head: &Head, _rows: &Rows) {
-        begin_definition(s, Name::One(Single::LocationMarked, k as u16));
-        put_text(s, b"(case ");
-        put_locations(s, k, head.marks);
-        put_text(s, b"TRUE : 0; esac);\n");
+    fn put<S: Sink>(&self, s: &mut S, automaton: &Automaton) {
+        let k = automaton.number;
+        begin_case(s, Name::One(Single::LocationMarked, k as u16));
+        put_locations(s, k, automaton.head.marks);
+        end_case(s, 0);
     }
 }
 
@@ -62,8 +61,9 @@ struct LocationEntries;
 impl AutomatonText for LocationEntries {
     ghost text = { λ _ k A. unmarked_location k A };
 
-    fn put<S: Sink>(&self, s: &mut S, k: u8, _head: &Head, _rows: &Rows) {
-        put_compared(s, Name::One(Single::LocationMarked, k as u16), Order::Eq, 0);
+    fn put<S: Sink>(&self, s: &mut S, automaton: &Automaton) {
+        let marked = Name::One(Single::LocationMarked, automaton.number as u16);
+        put_compared(s, marked, Order::Eq, 0);
         put_text(s, b" : 0; ");
     }
 }
@@ -91,10 +91,10 @@ impl NumberText for ValueEntries {
 
 // The line `mk`: whether every location and value is marked.
 pub fn put_marked<S: Sink>(s: &mut S, view: &View)
-    ensures { (sys : System) (rule : ClashRule) → ViewOf view.now sys → s.new ≡ fold S.Sink.step s.old (marked_text sys rule) }
+    ensures { (rule : ClashRule) → s.new ≡ fold S.Sink.step s.old (marked_text (system_of view.now) rule) }
 {
-    put_text(s, b"mk := (case ");
+    begin_case(s, Name::Marked);
     put_automata(s, view, &LocationEntries);
     put_numbers(s, view, view.layout.variables, &ValueEntries);
-    put_text(s, b"TRUE : 1; esac);\n");
+    end_case(s, 1);
 }

@@ -1,14 +1,32 @@
 // Whether an automaton has an open transition on an event.
+ghost use Rattle.std.specs.Prelude.{◌≡◌, fold};
+ghost use Rattle.model_text.specs.declared.words.Single.TheVariants.{PlantsOpen};
+ghost use Rattle.model_text.specs.declared.words.Double.TheVariants.{Open};
+ghost use Rattle.model_text.specs.declared.words.Name.TheVariants as N;
+ghost use Rattle.model_text.specs.declared.words.Constraint.TheVariants.{Always};
+ghost use Rattle.model_text.specs.Lines.{constrain, line_text};
+ghost use Rattle.translation.specs.Written.{is_at};
+ghost use Rattle.translation.specs.Translate.{either};
 ghost use Rattle.emit.specs.Texts.{open_entry, open_text, plant_entry, always_text};
 
 use crate::controlled::is_with;
-use emit::{AutomatonText, TransitionText, begin_definition, is_in, put_compared, put_transitions};
+use emit::{
+    Automaton, AutomatonText, TransitionText, begin_case, end_case, is_in, put_compared,
+    put_transitions,
+};
 use expr::code::Order;
 use expr::{Expression, Numbered};
 use model_text::{Double, Name, Single};
 use sinks::{Sink, put_text};
 use system::Role;
-use view::{Head, Rows, Transition};
+use view::Transition;
+
+// Whether automaton `k` has an open transition on event `e`.
+fn open_name(e: u8, k: u8) -> Name
+    ensures { result ≡ N.Two Open e k }
+{
+    Name::Two(Double::Open, e as u16, k as u16)
+}
 
 // An entry for each transition on the event: where it begins, and its guard.
 #[derive(Drop)]
@@ -22,13 +40,9 @@ impl TransitionText for OpenEntry {
 
     fn put<S: Sink>(&self, s: &mut S, _choice: u16, t: &Transition) {
         if t.event == self.event {
+            let location = Name::One(Single::Location, self.automaton as u16);
             put_text(s, b"(");
-            put_compared(
-                s,
-                Name::One(Single::Location, self.automaton as u16),
-                Order::Eq,
-                t.from as u16,
-            );
+            put_compared(s, location, Order::Eq, t.from as u16);
             put_text(s, b" & ");
             t.guard.put(s, &Numbered);
             put_text(s, b") : 1; ");
@@ -45,19 +59,17 @@ pub struct OpenDefinitions {
 impl AutomatonText for OpenDefinitions {
     ghost text = { λ p k A. open_text p.event k A };
 
-    fn put<S: Sink>(&self, s: &mut S, k: u8, head: &Head, rows: &Rows) {
-        if is_in(self.event, head.alphabet) {
-            begin_definition(s, Name::Two(Double::Open, self.event as u16, k as u16));
-            put_text(s, b"(case ");
-            put_transitions(
-                s,
-                rows,
-                &OpenEntry {
-                    event: self.event,
-                    automaton: k,
-                },
-            );
-            put_text(s, b"TRUE : 0; esac);\n");
+    fn put<S: Sink>(&self, s: &mut S, automaton: &Automaton) {
+        let event = self.event;
+        let k = automaton.number;
+        if is_in(event, automaton.head.alphabet) {
+            let entry = OpenEntry {
+                event,
+                automaton: k,
+            };
+            begin_case(s, open_name(event, k));
+            put_transitions(s, &automaton.rows, &entry);
+            end_case(s, 0);
         }
     }
 }
@@ -71,17 +83,24 @@ pub struct PlantEntries {
 impl AutomatonText for PlantEntries {
     ghost text = { λ p k A. plant_entry p.event k A };
 
-    fn put<S: Sink>(&self, s: &mut S, k: u8, head: &Head, _rows: &Rows) {
-        if is_with(Role::Plant, self.event, head) {
-            put_compared(
-                s,
-                Name::Two(Double::Open, self.event as u16, k as u16),
-                Order::Eq,
-                0,
-            );
+    fn put<S: Sink>(&self, s: &mut S, automaton: &Automaton) {
+        if is_with(Role::Plant, self.event, &automaton.head) {
+            let open = open_name(self.event, automaton.number);
+            put_compared(s, open, Order::Eq, 0);
             put_text(s, b" : 0; ");
         }
     }
+}
+
+// Wherever the plants are open on the event, the automaton is.
+fn put_requirement<S: Sink>(s: &mut S, e: u8, k: u8)
+    ensures { s.new ≡ fold S.Sink.step s.old (line_text (constrain Always (either (is_at (N.One PlantsOpen e) 0) (is_at (N.Two Open e k) 1)))) }
+{
+    put_text(s, b"SPEC AG (");
+    put_compared(s, Name::One(Single::PlantsOpen, e as u16), Order::Eq, 0);
+    put_text(s, b" | ");
+    put_compared(s, open_name(e, k), Order::Eq, 1);
+    put_text(s, b");\n");
 }
 
 // The line of each specification with the event.
@@ -93,23 +112,9 @@ pub struct SpecificationLines {
 impl AutomatonText for SpecificationLines {
     ghost text = { λ p k A. always_text p.event k A };
 
-    fn put<S: Sink>(&self, s: &mut S, k: u8, head: &Head, _rows: &Rows) {
-        if is_with(Role::Specification, self.event, head) {
-            put_text(s, b"SPEC AG (");
-            put_compared(
-                s,
-                Name::One(Single::PlantsOpen, self.event as u16),
-                Order::Eq,
-                0,
-            );
-            put_text(s, b" | ");
-            put_compared(
-                s,
-                Name::Two(Double::Open, self.event as u16, k as u16),
-                Order::Eq,
-                1,
-            );
-            put_text(s, b");\n");
+    fn put<S: Sink>(&self, s: &mut S, automaton: &Automaton) {
+        if is_with(Role::Specification, self.event, &automaton.head) {
+            put_requirement(s, self.event, automaton.number);
         }
     }
 }

@@ -6,7 +6,3 @@ use Rattle.model_text.specs.Words.{name_text}
 -- the definition of a name
 abbrev pub defined : Name → List ℕ → List ℕ
 defined x e = name_text x ++ (codes " := " ++ (e ++ codes ";\n"))
-
--- the definition of a name as a case that is else 0
-abbrev pub case_text : Name → List ℕ → List ℕ
-case_text x es = name_text x ++ (codes " := (case " ++ (es ++ codes "TRUE : 0; esac);\n"))

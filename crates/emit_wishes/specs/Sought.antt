@@ -1,13 +1,20 @@
--- The updates of a transition, searched for those of one variable.
-use Rattle.std.specs.Prelude.{ℕ, Bool, false, cond, List, [], ◌∷◌, ◌==◌}
-use Rattle.system.specs.System.{Update}
+-- What an automaton wishes of a variable.
+use Rattle.std.specs.Prelude.{◌≡◌, ℕ, List}
+use Rattle.std.proofs.Math.Option.{Option, some}
+use Rattle.expr.specs.Expr.{Expr, term}
+use Rattle.expr.specs.Coded.{Coded}
+use Rattle.model_text.specs.Trees as T
+use Rattle.translation.specs.Written.{count, written, variable_name}
+use Rattle.emit_wishes.specs.declared.entries.Wish.{Wish}
+use Rattle.emit_wishes.specs.declared.entries.Wish.TheVariants.{Status, Value}
 
--- there is a first update, and it is one of variable i
-abbrev pub first_is : ℕ → List Update → Bool
-first_is i [] = false
-first_is i (u ∷ us) = i == u.variable
+-- the code of a term that was found is that of the one that is sought
+pub record Found (code : List ℕ) (e : Option (Expr term)) : Type 0 where
+  pub value : Expr term
+  pub is : e ≡ some value
+  pub coded : Coded code value
 
--- the updates from the first one of variable i on
-abbrev pub updates_from : ℕ → List Update → List Update
-updates_from i [] = []
-updates_from i (u ∷ us) = cond (i == u.variable) (u ∷ us) (updates_from i us)
+-- what is wished where an update has this term
+abbrev pub wished : Wish → Expr term → T.Tree T.expr
+wished Status e = count 1
+wished Value e = written variable_name e

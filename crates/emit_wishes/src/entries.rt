@@ -1,40 +1,42 @@
 // The entries of a wish's cases: one for each choice that updates the variable.
-ghost use Rattle.std.specs.Prelude.{◌≡◌, List, ◌++◌, codes, fold};
+ghost use Rattle.std.specs.Prelude.{◌≡◌, List, MatchOption, ◌++◌, codes, fold};
+ghost use Rattle.std.proofs.Math.Option.{none};
+ghost use Rattle.expr.specs.Expr.{Expr, term};
+ghost use Rattle.expr.specs.Coded.{Coded};
 ghost use Rattle.system.specs.System.{Update};
 ghost use Rattle.view.specs.Shown.{UpdatesOf};
 ghost use Rattle.model_text.specs.declared.words.Single.TheVariants.{Choice};
 ghost use Rattle.model_text.specs.declared.words.Name.TheVariants as N;
 ghost use Rattle.model_text.specs.Trees.{print};
+ghost use Rattle.translation.specs.Systems.{sought};
 ghost use Rattle.translation.specs.Written.{is_at};
-ghost use Rattle.emit.specs.Texts.{status_entry, value_entry};
-ghost use Rattle.emit_wishes.specs.Sought.{first_is, updates_from};
+ghost use Rattle.emit.specs.Texts.{wish_entry};
+ghost use Rattle.emit_wishes.specs.Sought.{Found, wished};
 
 use emit::{TransitionText, put_compared};
 use expr::code::Order;
-use expr::{Expression, Numbered};
+use expr::{Expression, Numbered, Term};
 use model_text::{Name, Single};
-use sinks::{Sink, put_text};
+use sinks::{Sink, put_number, put_text};
 use view::{Transition, Updates};
 
-// Whether there is a first update, and it is one of the variable.
-fn is_first(updates: &Updates, i: u8) -> bool
-    ensures { (us : List Update) → UpdatesOf updates.now us → result ≡ first_is i us }
-{
-    updates.left > 0 && i == updates.first().variable
+// What an automaton says of a variable: whether it wishes to change it, and to which value.
+#[derive(Clone, Copy)]
+pub enum Wish {
+    Status,
+    Value,
 }
 
-// The updates from the first one of the variable on.
-fn from_variable<'a>(updates: &Updates<'a>, i: u8) -> Updates<'a>
-    ensures { (us : List Update) → UpdatesOf updates.now us → UpdatesOf result (updates_from i us) }
+// The term of the first update of the variable.
+fn update_of<'a>(updates: &Updates<'a>, i: u8) -> Option<Term<'a>>
+    ensures { (us : List Update) → UpdatesOf updates.now us → MatchOption result (sought i us ≡ none) (λ x. Found x.code.now (sought i us)) }
 {
-    let mut rest = *updates;
-    for _ in 0..updates.left {
-        if is_first(&rest, i) {
-            return rest;
+    for update in *updates {
+        if i == update.variable {
+            return Some(update.value);
         }
-        rest = rest.rest();
     }
-    rest
+    None
 }
 
 // `(c0 = 1) : `
@@ -45,39 +47,31 @@ fn begin_entry<S: Sink>(s: &mut S, k: u8, choice: u16)
     put_text(s, b" : ");
 }
 
-// Whether the variable is updated: 1.
-#[derive(Drop)]
-pub struct StatusEntry {
-    pub variable: u8,
-    pub automaton: u8,
-}
-
-impl TransitionText for StatusEntry {
-    ghost text = { λ p j t. status_entry p.variable p.automaton j t };
-
-    fn put<S: Sink>(&self, s: &mut S, choice: u16, t: &Transition) {
-        if from_variable(&t.updates, self.variable).left > 0 {
-            begin_entry(s, self.automaton, choice);
-            put_text(s, b"1; ");
-        }
+// What is wished where the term is the update's.
+fn put_wished<S: Sink>(s: &mut S, wish: Wish, value: &Term)
+    ensures { (e : Expr term) → Coded value.now.code.now e → s.new ≡ fold S.Sink.step s.old (print (wished wish e)) }
+{
+    match wish {
+        Wish::Status => put_number(s, 1),
+        Wish::Value => value.put(s, &Numbered),
     }
 }
 
-// The value that the variable is to take: the update's term.
+// The entry of a choice that updates the variable.
 #[derive(Drop)]
-pub struct ValueEntry {
+pub struct WishEntry {
+    pub wish: Wish,
     pub variable: u8,
     pub automaton: u8,
 }
 
-impl TransitionText for ValueEntry {
-    ghost text = { λ p j t. value_entry p.variable p.automaton j t };
+impl TransitionText for WishEntry {
+    ghost text = { λ p j t. wish_entry (wished p.wish) p.variable p.automaton j (sought p.variable t.updates) };
 
     fn put<S: Sink>(&self, s: &mut S, choice: u16, t: &Transition) {
-        let updates = from_variable(&t.updates, self.variable);
-        if updates.left > 0 {
+        if let Some(value) = update_of(&t.updates, self.variable) {
             begin_entry(s, self.automaton, choice);
-            updates.first().value.put(s, &Numbered);
+            put_wished(s, self.wish, &value);
             put_text(s, b"; ");
         }
     }

@@ -1,29 +1,32 @@
 // The wishes of one automaton for one variable.
-ghost use Rattle.std.specs.Prelude.{◌≡◌, ℕ, ◌+◌, List, fold};
-ghost use Rattle.sinks.specs.Text.{each};
-ghost use Rattle.system.specs.System.{Transition};
-ghost use Rattle.view.specs.Shown.{RowsOf};
-ghost use Rattle.emit.specs.Own.{own_rows};
-ghost use Rattle.emit.specs.Texts.{wishes_text};
-ghost use Rattle.emit_wishes.specs.Lines.{case_text};
+ghost use Rattle.std.specs.Prelude.{◌≡◌, fold};
+ghost use Rattle.system.specs.System.{Automaton as Owner};
+ghost use Rattle.model_text.specs.Trees.{choose};
+ghost use Rattle.translation.specs.Cases.{wish_case};
+ghost use Rattle.emit.specs.Own.{AutomatonShows};
+ghost use Rattle.emit.specs.Texts.{definition_text, wishes_text};
+ghost use Rattle.emit_wishes.specs.Sought.{wished};
 
-use crate::entries::{StatusEntry, ValueEntry};
+use crate::entries::{Wish, WishEntry};
 use crate::joins::put_join;
 use clash::Rule;
-use emit::{AutomatonText, TransitionText, begin_definition, put_transitions};
+use emit::{Automaton, AutomatonText, begin_case, end_case, put_transitions};
 use model_text::{Double, Name};
-use sinks::{Sink, put_text};
+use sinks::Sink;
 use std::marker::PhantomData;
-use view::{Head, Rows};
 
-// A case with the entries of an automaton's transitions.
-fn put_case<S: Sink, P: TransitionText>(s: &mut S, x: Name, rows: &Rows, piece: &P)
-    ensures { (k : ℕ) (ts : List Transition) → RowsOf rows.now (own_rows k ts) → s.new ≡ fold S.Sink.step s.old (case_text x (each (λ j. P.TransitionText.text piece.now (j + 1)) 0 ts)) }
+// The definition of a name as what the automaton wishes of variable `i`.
+fn put_wish<S: Sink>(s: &mut S, x: Name, wish: Wish, i: u8, automaton: &Automaton)
+    ensures { (A : Owner) → AutomatonShows automaton.now A → s.new ≡ fold S.Sink.step s.old (definition_text x (choose (wish_case (wished wish) i automaton.now.number 1 A.transitions))) }
 {
-    begin_definition(s, x);
-    put_text(s, b"(case ");
-    put_transitions(s, rows, piece);
-    put_text(s, b"TRUE : 0; esac);\n");
+    let entry = WishEntry {
+        wish,
+        variable: i,
+        automaton: automaton.number,
+    };
+    begin_case(s, x);
+    put_transitions(s, &automaton.rows, &entry);
+    end_case(s, 0);
 }
 
 // Whether each choice updates the variable, and to which value; joined with the wishes before.
@@ -36,26 +39,13 @@ pub struct Wishes<R> {
 impl<R: Rule> AutomatonText for Wishes<R> {
     ghost text = { λ p k A. wishes_text R.Rule.rule p.variable k A };
 
-    fn put<S: Sink>(&self, s: &mut S, k: u8, _head: &Head, rows: &Rows) {
+    fn put<S: Sink>(&self, s: &mut S, automaton: &Automaton) {
         let i = self.variable;
-        put_case(
-            s,
-            Name::Two(Double::WishStatus, i as u16, k as u16),
-            rows,
-            &StatusEntry {
-                variable: i,
-                automaton: k,
-            },
-        );
-        put_case(
-            s,
-            Name::Two(Double::WishValue, i as u16, k as u16),
-            rows,
-            &ValueEntry {
-                variable: i,
-                automaton: k,
-            },
-        );
+        let k = automaton.number;
+        let status = Name::Two(Double::WishStatus, i as u16, k as u16);
+        let value = Name::Two(Double::WishValue, i as u16, k as u16);
+        put_wish(s, status, Wish::Status, i, automaton);
+        put_wish(s, value, Wish::Value, i, automaton);
         put_join::<S, R>(s, i, k);
     }
 }

@@ -1,5 +1,5 @@
 // From a system file to its model text.
-#![tactic(auto)]
+#![tactic(auto, using(emit::proofs::Sent::texts))]
 
 ghost use Rattle.std.specs.Prelude.{take, IfOk};
 ghost use Rattle.sinks.specs.Post.{Written};
@@ -50,9 +50,6 @@ pub fn write<R: Rule>(file: &[u8], out: &mut [u8]) -> Result<usize, Fault>
     ensures exact { Answered R.Rule.rule file.now out.old out.new result }
     ensures means { IfOk result (λ n. SaysSystem R.Rule.rule file.now (take n out.new)) }
 {
-    let layout = system::check(file)?;
-    match write_view::<R>(View { file, layout }, out) {
-        Ok(length) => Ok(length),
-        Err(needed) => Err(Fault::Buffer(needed)),
-    }
+    let view = View::check(file)?;
+    write_view::<R>(view, out).map_err(Fault::Buffer)
 }

@@ -1,7 +1,6 @@
 // The whole text of a model.
 ghost use Rattle.std.specs.Prelude.{◌≡◌, fold};
-ghost use Rattle.system.specs.System.{System};
-ghost use Rattle.view.specs.Shown.{ViewOf};
+ghost use Rattle.view.specs.Shown.{system_of};
 ghost use Rattle.clash.specs.Rules.{ClashRule};
 ghost use Rattle.emit.specs.Texts.{definitions_text, constraints_text, whole_text};
 
@@ -18,7 +17,7 @@ use view::View;
 
 // The lines that define names.
 fn put_definitions<S: Sink, R: Rule>(s: &mut S, view: &View)
-    ensures { (sys : System) → ViewOf view.now sys → s.new ≡ fold S.Sink.step s.old (definitions_text sys R.Rule.rule) }
+    ensures { s.new ≡ fold S.Sink.step s.old (definitions_text (system_of view.now) R.Rule.rule) }
 {
     put_automata(s, view, &ChoiceDefinitions);
     let variables = VariableDefinitions::<R> { rule: PhantomData };
@@ -30,7 +29,7 @@ fn put_definitions<S: Sink, R: Rule>(s: &mut S, view: &View)
 
 // The lines after the definitions.
 fn put_constraints<S: Sink>(s: &mut S, view: &View)
-    ensures { (sys : System) (R : ClashRule) → ViewOf view.now sys → s.new ≡ fold S.Sink.step s.old (constraints_text sys R) }
+    ensures { (R : ClashRule) → s.new ≡ fold S.Sink.step s.old (constraints_text (system_of view.now) R) }
 {
     put_automata(s, view, &LocationStarts);
     put_numbers(s, view, view.layout.variables, &ValueStarts);
@@ -41,7 +40,7 @@ fn put_constraints<S: Sink>(s: &mut S, view: &View)
 }
 
 pub fn put_model<S: Sink, R: Rule>(s: &mut S, view: &View)
-    ensures { (sys : System) → ViewOf view.now sys → s.new ≡ fold S.Sink.step s.old (whole_text sys R.Rule.rule) }
+    ensures { s.new ≡ fold S.Sink.step s.old (whole_text (system_of view.now) R.Rule.rule) }
 {
     put_declarations::<S, R>(s, view);
     put_definitions::<S, R>(s, view);

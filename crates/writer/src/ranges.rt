@@ -1,17 +1,16 @@
 // The declarations of a text: its rule, and the ranges of its variables.
 ghost use Rattle.std.specs.Prelude.{◌≡◌, pos, fold};
 ghost use Rattle.std.specs.Fmt.{signed_decimal};
-ghost use Rattle.system.specs.System.{System};
-ghost use Rattle.view.specs.Shown.{ViewOf};
+ghost use Rattle.view.specs.Shown.{system_of};
 ghost use Rattle.model_text.specs.Lines.{range, line_text};
 ghost use Rattle.translation.specs.Systems.{variable};
 ghost use Rattle.emit.specs.Texts.{choice_range, location_range, value_range, declarations_text};
 
 use clash::Rule;
-use emit::{AutomatonText, NumberText, put_automata, put_name, put_numbers, values_of};
+use emit::{Automaton, AutomatonText, NumberText, put_automata, put_name, put_numbers, values_of};
 use model_text::{Name, Single};
 use sinks::{Sink, put_number, put_text};
-use view::{Head, Rows, View};
+use view::View;
 
 // `7`, or `-7`.
 fn put_signed<S: Sink>(s: &mut S, v: i16)
@@ -30,9 +29,7 @@ fn put_count_range<S: Sink>(s: &mut S, x: Name, last: u64)
     ensures { s.new ≡ fold S.Sink.step s.old (line_text (range x (pos 0) (pos last))) }
 {
     put_name(s, x);
-    put_text(s, b" : ");
-    put_number(s, 0);
-    put_text(s, b"..");
+    put_text(s, b" : 0..");
     put_number(s, last);
     put_text(s, b";\n");
 }
@@ -43,8 +40,9 @@ struct ChoiceRanges;
 impl AutomatonText for ChoiceRanges {
     ghost text = { λ _ k A. choice_range k A };
 
-    fn put<S: Sink>(&self, s: &mut S, k: u8, _head: &Head, rows: &Rows) {
-        put_count_range(s, Name::One(Single::Choice, k as u16), rows.left as u64);
+    fn put<S: Sink>(&self, s: &mut S, automaton: &Automaton) {
+        let choice = Name::One(Single::Choice, automaton.number as u16);
+        put_count_range(s, choice, automaton.rows.left as u64);
     }
 }
 
@@ -54,9 +52,10 @@ struct LocationRanges;
 impl AutomatonText for LocationRanges {
     ghost text = { λ _ k A. location_range k A };
 
-    fn put<S: Sink>(&self, s: &mut S, k: u8, head: &Head, _rows: &Rows) {
-        let last = head.marks.len().saturating_sub(1);
-        put_count_range(s, Name::One(Single::Location, k as u16), last as u64);
+    fn put<S: Sink>(&self, s: &mut S, automaton: &Automaton) {
+        let location = Name::One(Single::Location, automaton.number as u16);
+        let last = automaton.head.marks.len().saturating_sub(1);
+        put_count_range(s, location, last as u64);
     }
 }
 
@@ -79,7 +78,7 @@ impl NumberText for ValueRanges {
 
 // The lines up to the definitions.
 pub fn put_declarations<S: Sink, R: Rule>(s: &mut S, view: &View)
-    ensures { (sys : System) → ViewOf view.now sys → s.new ≡ fold S.Sink.step s.old (declarations_text sys R.Rule.rule) }
+    ensures { s.new ≡ fold S.Sink.step s.old (declarations_text (system_of view.now) R.Rule.rule) }
 {
     put_text(s, b"-- rule ");
     put_number(s, R::code() as u64);

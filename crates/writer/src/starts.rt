@@ -2,11 +2,11 @@
 ghost use Rattle.translation.specs.Systems.{variable};
 ghost use Rattle.emit.specs.Texts.{start_text, value_start_text};
 
-use emit::{AutomatonText, NumberText, put_compared, put_name, values_of};
+use emit::{Automaton, AutomatonText, NumberText, put_compared, put_name, values_of};
 use expr::code::Order;
 use model_text::{Name, Single};
 use sinks::{Sink, put_text, put_value};
-use view::{Head, Rows, View};
+use view::View;
 
 #[derive(Drop)]
 pub struct LocationStarts;
@@ -14,14 +14,10 @@ pub struct LocationStarts;
 impl AutomatonText for LocationStarts {
     ghost text = { λ _ k A. start_text k A };
 
-    fn put<S: Sink>(&self, s: &mut S, k: u8, head: &Head, _rows: &Rows) {
+    fn put<S: Sink>(&self, s: &mut S, automaton: &Automaton) {
+        let location = Name::One(Single::Location, automaton.number as u16);
         put_text(s, b"INIT ");
-        put_compared(
-            s,
-            Name::One(Single::Location, k as u16),
-            Order::Eq,
-            head.start as u16,
-        );
+        put_compared(s, location, Order::Eq, automaton.head.start as u16);
         put_text(s, b";\n");
     }
 }

@@ -1,23 +1,15 @@
-use Rattle.writer.proofs.Texts.{answered, says-system, text_in_front}
+use Rattle.std.proofs.Common.{take, ap, subst}
+use Rattle.sinks.specs.Post.{Written}
+use Rattle.view.proofs.Systems.{viewed}
+use Rattle.writer.specs.Answered.{file_text, SaysSystem}
+use Rattle.writer.proofs.Texts.{when_ok, says-system, text_in_front}
 use Rattle.writer.proofs.write.Goals as goal
 
-pub invariant_of-write_view : goal.invariant_of-write_view
-invariant_of-write_view g c =
-    let w = c.in_ok-layout.ensures.exact.agree in
-    record { shows = ∣ (w.value, w.holds) ∣₁ }
-
-pub returns-in-Ok : goal.returns-in-Ok
-returns-in-Ok g c =
+pub returns-clause-means : goal.returns-clause-means
+returns-clause-means g c =
     let R = g.R.Rule.rule in
-    let s = c.args.file.now in
-    let w = c.in_ok-layout.ensures.exact.agree in
-    let told = c.in-Ok.ensures in
-    record {
-      exact = answered R s _ _ w.value w.end _ w.is told;
-      means = says-system R s _ w.value w.holds g.met.R.Rule.lawful _ (text_in_front _ _ _ _ told);
-    }
-
-pub returns-in-Err : goal.returns-in-Err
-returns-in-Err g c =
-    let w = c.in_ok-layout.ensures.exact.agree in
-    record { exact = answered g.R.Rule.rule c.args.file.now _ _ w.value w.end _ w.is c.in-Err.ensures; means = tt }
+    let v = c.in_ok-view.view in
+    let same = ap (λ b. b.now) c.in_ok-view.ensures.exact.agree.holds.0 in
+    when_ok c.write_view.result c.map_err.result _ _ c.map_err.ensures.cases (λ n is.
+    let told = subst (Written (file_text R v.file.now) c.args.out.now c.write_view.new.out) is c.write_view.ensures in
+    subst (λ s. SaysSystem R s (take n c.write_view.new.out)) same (says-system R v.file.now v.layout _ (viewed v) g.met.R.Rule.lawful _ (text_in_front _ _ _ n told)))

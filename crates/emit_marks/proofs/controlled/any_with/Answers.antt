@@ -1,18 +1,17 @@
-use Rattle.std.proofs.Common.{◌≡◌, ◌<◌, length, sym, ap, ◌∙◌, arith}
-use Rattle.translation.specs.Systems.{automaton, any_below}
+use Rattle.std.proofs.Common.{◌≡◌, ℕ, ◌-◌, Bool, length, refl, ◌∙◌, rules, tests, arith}
+use Rattle.std.proofs.lemmas.Iterator.{YieldsList-from_range}
+use Rattle.std.proofs.lemmas.Iterator.Search.{any_from_yields_List}
+use Rattle.view.specs.Shown.{system_of}
+use Rattle.view.proofs.Systems.{viewed}
+use Rattle.translation.specs.Systems.{automaton}
 use Rattle.emit_marks.specs.Roles.{is_with}
-use Rattle.emit_marks.proofs.AnyBelow.{any_at, none_more}
+use Rattle.emit_marks.proofs.AnyBelow.{any_in_range}
 use Rattle.emit_marks.proofs.controlled.any_with.Goals as goal
 
-pub returns-then-is_with : goal.returns-then-is_with
-returns-then-is_with c S h =
-    let under : c.loop-k.k < length S.automata = omega (arith, h.automata, c.loop-k-test.true) in
-    sym (any_at (λ k. is_with c.args.role c.args.e (automaton S k)) (length S.automata) c.loop-k.k under (sym (c.if-is_with.ensures (automaton S c.loop-k.k) (c.head_of.ensures S h))))
-
-pub loop-k-preserved : goal.loop-k-preserved
-loop-k-preserved c S h = none_more (λ k. is_with c.args.role c.args.e (automaton S k)) c.loop-k.k (c.loop-k.invariant S h) (sym (c.if-is_with.ensures (automaton S c.loop-k.k) (c.head_of.ensures S h)))
-
 pub returns : goal.returns
-returns c S h =
-    let all : c.loop-k.k ≡ length S.automata = omega (arith, h.automata, c.loop-k-test.false, c.loop-k.auto.k-end) in
-    sym (c.loop-k.invariant S h) ∙ ap (λ n. any_below n (λ k. is_with c.args.role c.args.e (automaton S k))) all
+returns c =
+    let S = system_of c.args.view.now in
+    let test : ℕ → Bool = λ k. is_with c.args.role c.args.e (automaton S k) in
+    let long : c.args.view.now.layout.automata - 0 ≡ length S.automata = omega (arith, (viewed c.args.view.now).automata) in
+    any_from_yields_List test _ _ _ c.any.ensures.ran (YieldsList-from_range 0 c.args.view.now.layout.automata (length S.automata) refl long) (λ x b q k. search (rules, tests))
+    ∙ any_in_range test (length S.automata)

@@ -1,7 +1,6 @@
 -- The texts of signed values that a sink has taken, and of numbers.
-use Rattle.std.proofs.Common.{◌≡◌, ℕ, List, ◌++◌, ℤ, pos, negsuc, codes, fold, refl, ap, ◌∙◌, append_assoc, w16, SFits, to_z, of_z}
+use Rattle.std.proofs.Common.{◌≡◌, ℕ, List, ℤ, pos, negsuc, fold, refl, ap, ◌∙◌, w16, SFits, to_z, of_z}
 use Rattle.std.proofs.lemmas.Int.{to_z-of_z}
-use Rattle.expr.specs.Text.{between}
 use Rattle.sinks.specs.Text.{value_text}
 use Rattle.model_text.specs.Trees.{print}
 use Rattle.translation.specs.Written.{number}
@@ -11,9 +10,9 @@ pub value-told : {S : Type 0} (F : ℤ → List ℕ) (f : S → ℕ → S) (s t 
 value-told F f s t z v h is e = e ∙ ap (λ y. fold f s (F y)) (to_z-of_z w16 z h ∙ is)
 
 -- a literal is printed as a value
-pub value-number : (v : ℤ) → value_text v ≡ print (number v)
+value-number : (v : ℤ) → value_text v ≡ print (number v)
 value-number (pos n) = refl
 value-number (negsuc n) = refl
 
-pub start_pieces : (x v : List ℕ) → codes "INIT (" ++ (x ++ (codes " = " ++ (v ++ codes ");\n"))) ≡ codes "INIT " ++ (between x (codes " = ") v ++ codes ";\n")
-start_pieces x v = simp append_assoc
+pub number-told : {S : Type 0} (f : S → ℕ → S) (s t : S) (z v : ℤ) → SFits w16 z → z ≡ v → t ≡ fold f s (value_text (to_z w16 (of_z w16 z))) → t ≡ fold f s (print (number v))
+number-told f s t z v h is e = value-told value_text f s t z v h is e ∙ ap (fold f s) (value-number v)
