@@ -11,7 +11,7 @@ pub fn marked(marks: &[u8]) -> Numbers
     Numbers::from_fn(|k| marks.get(k as usize) == Some(&1))
 }
 
-// The events of an alphabet.
+// The events of an alphabet. A loop, since std's `Extend` answers a Result for the heap, which a set does not need.
 pub fn numbers_of(alphabet: &[u8]) -> Numbers
     ensures { Collects result (among alphabet.now) }
 {
