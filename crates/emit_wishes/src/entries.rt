@@ -20,9 +20,9 @@ use model_text::{Name, Single};
 use sinks::{Sink, put_number, put_text};
 use view::{Transition, Updates};
 
-// What an automaton says of a variable: whether it wishes to change it, and to which value.
+// The two parts of an automaton's wish for a variable: whether it has one, and for which value.
 #[derive(Clone, Copy)]
-pub enum Wish {
+pub enum WishPart {
     Status,
     Value,
 }
@@ -48,30 +48,30 @@ fn begin_entry<S: Sink>(s: &mut S, k: u8, choice: u16)
 }
 
 // What is wished where the term is the update's.
-fn put_wished<S: Sink>(s: &mut S, wish: Wish, value: &Term)
-    ensures { (e : Expr term) → Coded value.now.code.now e → s.new ≡ fold S.Sink.step s.old (print (wished wish e)) }
+fn put_wished<S: Sink>(s: &mut S, part: WishPart, value: &Term)
+    ensures { (e : Expr term) → Coded value.now.code.now e → s.new ≡ fold S.Sink.step s.old (print (wished part e)) }
 {
-    match wish {
-        Wish::Status => put_number(s, 1),
-        Wish::Value => value.put(s, &Numbered),
+    match part {
+        WishPart::Status => put_number(s, 1),
+        WishPart::Value => value.put(s, &Numbered),
     }
 }
 
 // The entry of a choice that updates the variable.
 #[derive(Drop)]
 pub struct WishEntry {
-    pub wish: Wish,
+    pub part: WishPart,
     pub variable: u8,
     pub automaton: u8,
 }
 
 impl TransitionText for WishEntry {
-    ghost text = { λ p j t. wish_entry (wished p.wish) p.variable p.automaton j (sought p.variable t.updates) };
+    ghost text = { λ p j t. wish_entry (wished p.part) p.variable p.automaton j (sought p.variable t.updates) };
 
     fn put<S: Sink>(&self, s: &mut S, choice: u16, t: &Transition) {
         if let Some(value) = update_of(&t.updates, self.variable) {
             begin_entry(s, self.automaton, choice);
-            put_wished(s, self.wish, &value);
+            put_wished(s, self.part, &value);
             put_text(s, b"; ");
         }
     }

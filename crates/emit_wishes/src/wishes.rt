@@ -7,7 +7,7 @@ ghost use Rattle.emit.specs.Own.{AutomatonShows};
 ghost use Rattle.emit.specs.Texts.{definition_text, wishes_text};
 ghost use Rattle.emit_wishes.specs.Sought.{wished};
 
-use crate::entries::{Wish, WishEntry};
+use crate::entries::{WishEntry, WishPart};
 use crate::joins::put_join;
 use clash::Rule;
 use emit::{Automaton, AutomatonText, begin_case, end_case, put_transitions};
@@ -16,11 +16,11 @@ use sinks::Sink;
 use std::marker::PhantomData;
 
 // The definition of a name as what the automaton wishes of variable `i`.
-fn put_wish<S: Sink>(s: &mut S, x: Name, wish: Wish, i: u8, automaton: &Automaton)
-    ensures { (A : Owner) → AutomatonShows automaton.now A → s.new ≡ fold S.Sink.step s.old (definition_text x (choose (wish_case (wished wish) i automaton.now.number 1 A.transitions))) }
+fn put_wish<S: Sink>(s: &mut S, x: Name, part: WishPart, i: u8, automaton: &Automaton)
+    ensures { (A : Owner) → AutomatonShows automaton.now A → s.new ≡ fold S.Sink.step s.old (definition_text x (choose (wish_case (wished part) i automaton.now.number 1 A.transitions))) }
 {
     let entry = WishEntry {
-        wish,
+        part,
         variable: i,
         automaton: automaton.number,
     };
@@ -44,8 +44,8 @@ impl<R: Rule> AutomatonText for Wishes<R> {
         let k = automaton.number;
         let status = Name::Two(Double::WishStatus, i as u16, k as u16);
         let value = Name::Two(Double::WishValue, i as u16, k as u16);
-        put_wish(s, status, Wish::Status, i, automaton);
-        put_wish(s, value, Wish::Value, i, automaton);
+        put_wish(s, status, WishPart::Status, i, automaton);
+        put_wish(s, value, WishPart::Value, i, automaton);
         put_join::<S, R>(s, i, k);
     }
 }

@@ -8,4 +8,4 @@ pub returns : goal.returns
 returns g c A h =
     let k = c.args.automaton.now.number in
     let sent = c.put_transitions.ensures k A.transitions h.rows in
-    rw (wish_definition (wished c.args.wish) c.args.i k c.args.x A.transitions) (grind (arith, common_steps))
+    rw (wish_definition (wished c.args.part) c.args.i k c.args.x A.transitions) (grind (arith, common_steps))
