@@ -8,8 +8,8 @@ use system::Range;
 use view::View;
 
 fn put_events<W: fmt::Write>(f: &mut fmt::Formatter<W>, view: &View) -> fmt::Result {
-    let controllable = Numbers::from_fn(|e| matches!(view.event(e), Some(Controllable)));
-    let uncontrollable = Numbers::from_fn(|e| matches!(view.event(e), Some(Uncontrollable)));
+    let controllable = Numbers::from_fn(|e| view.event(e) == Some(Controllable));
+    let uncontrollable = Numbers::from_fn(|e| view.event(e) == Some(Uncontrollable));
     writeln!(f, "events: {}", view.layout.events)?;
     writeln!(f, "  controllable: {controllable}")?;
     writeln!(f, "  uncontrollable: {uncontrollable}")
