@@ -34,13 +34,9 @@ fn between(low: i16, x: i16, high: i16) -> bool
 fn in_order(r: Range) -> bool
     ensures { result ≡ in_order (variable_of r) }
 {
-    if !ordered(-1000, r.low, r.high, 1000) {
-        return false;
-    }
-    if !between(r.low, r.start, r.high) {
-        return false;
-    }
-    ordered(r.low, r.marked_low, r.marked_high, r.high)
+    ordered(-1000, r.low, r.high, 1000)
+        && between(r.low, r.start, r.high)
+        && ordered(r.low, r.marked_low, r.marked_high, r.high)
 }
 
 // A variable's row of ten bytes.
