@@ -35,20 +35,21 @@ impl fmt::Display for RangeText {
     }
 }
 
-fn put_variables<W: fmt::Write>(f: &mut fmt::Formatter<W>, view: &View) -> fmt::Result {
-    let count = view.layout.variables;
-    writeln!(f, "variables: {count}")?;
-    for (i, range) in (0..count).filter_map(|i| view.variable(i)).enumerate() {
-        writeln!(f, "  u{i}: {}", RangeText(range))?;
-    }
-    Ok(())
-}
-
-fn put_automata<W: fmt::Write>(f: &mut fmt::Formatter<W>, view: &View) -> fmt::Result {
-    let count = view.layout.automata;
-    writeln!(f, "automata: {count}")?;
-    for (k, head) in (0..count).filter_map(|k| view.automaton(k)).enumerate() {
-        writeln!(f, "  {k}: {}", HeadText(head))?;
+// How many parts of a kind there are, and a line for each, behind its name and number.
+fn put_parts<W: fmt::Write, T: fmt::Display + Drop, P: Fn(u8) -> Option<T>>(
+    f: &mut fmt::Formatter<W>,
+    kind: &str,
+    name: &str,
+    count: u8,
+    part: P,
+) -> fmt::Result
+    requires { P.IsAlwaysCallable part }
+{
+    writeln!(f, "{kind}: {count}")?;
+    for k in 0..count {
+        if let Some(part) = part(k) {
+            writeln!(f, "  {name}{k}: {part}")?;
+        }
     }
     Ok(())
 }
@@ -64,9 +65,14 @@ pub struct Description<'a>(pub View<'a>);
 
 impl fmt::Display for Description<'_> {
     fn fmt<W: fmt::Write>(&self, f: &mut fmt::Formatter<W>) -> fmt::Result {
-        put_events(f, &self.0)?;
-        put_variables(f, &self.0)?;
-        put_automata(f, &self.0)?;
-        put_transitions(f, &self.0)
+        let view = &self.0;
+        put_events(f, view)?;
+        put_parts(f, "variables", "u", view.layout.variables, |i| {
+            view.variable(i).map(RangeText)
+        })?;
+        put_parts(f, "automata", "", view.layout.automata, |k| {
+            view.automaton(k).map(HeadText)
+        })?;
+        put_transitions(f, view)
     }
 }

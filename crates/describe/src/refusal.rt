@@ -3,6 +3,7 @@ use report::Refused;
 use scan::{Fault, FileFault, FileRule, Place, Section};
 use std::fmt;
 
+// Words by match, here and below: so each case is sure to have words, and an `impl Display` of them would be longer.
 fn section_name(section: Section) -> &'static str {
     match section {
         Section::Events => "events",

@@ -41,6 +41,7 @@ impl Single {
         self as u8
     }
 
+    // As for `Double`: a trait over both for this one line would be longer than the line.
     pub fn from_letter(letter: u8) -> Option<Single>
         ensures { LetterOf single letter result }
     {

@@ -5,7 +5,7 @@ pub struct Layout {
     pub variables: u8,
     pub automata: u8,
     pub transitions: u16,
-    // where each automaton's row begins
+    // where each automaton's row begins; no heap: at most 12
     pub heads: [usize; 12],
     // where the first transition's row begins
     pub rows_at: usize,

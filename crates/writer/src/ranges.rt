@@ -12,7 +12,7 @@ use model_text::{Name, Single};
 use sinks::{Sink, put_number, put_text};
 use view::View;
 
-// `7`, or `-7`.
+// `7`, or `-7`. Beside `put_value` of sinks, which puts the sign with its parenthesis as one text.
 fn put_signed<S: Sink>(s: &mut S, v: i16)
     ensures { s.new ≡ fold S.Sink.step s.old (signed_decimal v) }
 {
