@@ -4,7 +4,8 @@ use Rattle.std.proofs.lemmas.List.{take_at}
 use Rattle.std.specs.Result.{MatchResult, IfOk, IsErrAnd}
 use Rattle.sinks.specs.Post.{Written}
 use Rattle.scan.specs.declared.refusal.Fault.{Fault}
-use Rattle.scan.specs.Scan.{good}
+use Rattle.scan.specs.declared.refusal.Fault.TheVariants.{Buffer}
+use Rattle.scan.specs.Scan.{good, bad}
 use Rattle.clash.specs.Rules.{ClashRule, Lawful}
 use Rattle.system.specs.System.{System}
 use Rattle.system.specs.Scan.{answer}
@@ -19,7 +20,7 @@ use Rattle.translation.proofs.ModelsFormed.{models_formed}
 use Rattle.translation.proofs.TextsBounded.{texts_bounded}
 use Rattle.emit.specs.Texts.{whole_text}
 use Rattle.emit.proofs.GroupsWhole.{groups_whole}
-use Rattle.writer.specs.Answered.{text_by, file_text, SaysSystem}
+use Rattle.writer.specs.Answered.{text_by, file_text, AnsweredBy, Answered, TextAnswered, SaysSystem}
 
 module _ (R : ClashRule) (s : List ℕ) (l : Layout) (S : System) (h : Shows s l S) where
   shown_accepted : answer s ≡ good S (length (encode S))
@@ -37,6 +38,15 @@ module _ (R : ClashRule) (s : List ℕ) (l : Layout) (S : System) (h : Shows s l
       let e : length (file_text R s) ≡ length (text (model_of S R)) = ap length (sym shown_text) in
       omega arith
 
+-- a length that does not fit is a refusal
+abbrev pub refused_by : Result ℕ ℕ → Result ℕ Fault
+refused_by (Ok n) = Ok n
+refused_by (Err n) = Err (Buffer n)
+
+refused_cond : (b : Bool) (n : ℕ) → refused_by (cond b (Ok n) (Err n)) ≡ cond b (Ok n) (Err (Buffer n))
+refused_cond true n = refl
+refused_cond false n = refl
+
 ok_true : (b : Bool) (n k : ℕ) → Ok n ≡ cond {A = Result ℕ ℕ} b (Ok k) (Err k) → (b ≡ true) × (n ≡ k)
 ok_true true n k e = (refl, cc)
 ok_true false n k e = absurd (let z : ◌≡◌ {A = ℕ} 0 1 = cc in omega arith)
@@ -46,6 +56,17 @@ text_in_front t before after n w =
     let fits = ok_true (leb (length t) (length before)) n (length t) w.answer in
     let is : after ≡ t ++ drop (length t) before = w.bytes ∙ ap (λ b. cond b (t ++ drop (length t) before) before) fits.0 in
     ap (take n) is ∙ take_at t (drop (length t) before) n (sym fits.1)
+
+module _ (R : ClashRule) (s before after : List ℕ) where
+  pub answered : (S : System) (end : ℕ) (r : Result ℕ ℕ) → answer s ≡ good S end → Written (file_text R s) before after r → Answered R s before after (refused_by r)
+  answered S end r is w =
+      let t = file_text R s in
+      let same : t ≡ text (model_of S R) = ap (text_by R) is in
+      let told : TextAnswered t before after (refused_by r) = record { answer = ap refused_by w.answer ∙ refused_cond (leb (length t) (length before)) (length t); bytes = w.bytes } in
+      record { by_file = subst (λ o. AnsweredBy R o before after (refused_by r)) (sym is) (subst (λ x. TextAnswered x before after (refused_by r)) same told) }
+
+  pub refused : (f : Fault) → answer s ≡ bad f → after ≡ before → Answered R s before after (Err f)
+  refused f is kept = record { by_file = subst (λ o. AnsweredBy R o before after (Err f)) (sym is) (record { answer = refl; bytes = kept }) }
 
 -- what holds where a call and the answer made of it are both right
 pub when_ok : (w : Result ℕ ℕ) (r : Result ℕ Fault) (Q : ℕ → Fault → Type 0) (P : ℕ → Type 0)
