@@ -23,6 +23,7 @@ fn check(heap: Global, words: Option<&[u8]>) -> Result<Answer, Failure> {
 
 fn ask(heap: Global, line: &[u8]) -> Result<Answer, Failure> {
     let (question, words) = first_word(line);
+    // By match: a table of functions would hold one.
     match question {
         b"" => Err(Mistake::Empty.into()),
         b"check" => check(heap, words),

@@ -21,6 +21,7 @@ pub struct Wish {
 impl Wish {
     ghost use Rattle.clash.specs.Wishes.{none, single, clash};
 
+    // As `clash`: the two differ in the status alone, and a function of it would take one that may carry a value.
     pub fn none() -> Self
         ensures { result ≡ none }
     {

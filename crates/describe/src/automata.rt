@@ -4,6 +4,7 @@ use std::fmt;
 use system::Role;
 use view::Head;
 
+// By match, so that each role is sure to have a word.
 fn role_name(role: Role) -> &'static str {
     match role {
         Role::Plant => "plant",

@@ -31,6 +31,7 @@ pub enum WishPart {
 fn update_of<'a>(updates: &Updates<'a>, i: u8) -> Option<Term<'a>>
     ensures { (us : List Update) → UpdatesOf updates.now us → MatchOption result (sought i us ≡ none) (λ x. Found x.code.now (sought i us)) }
 {
+    // By `find` it stayed open that the one found is the first of the variable.
     for update in *updates {
         if i == update.variable {
             return Some(update.value);

@@ -8,7 +8,7 @@ pub enum EventKind {
     Uncontrollable,
 }
 
-// By its byte: 0 or 1 in an accepted file.
+// By its byte: 0 or 1 in an accepted file. One `From` for this and `Role` would take the two variants and be longer.
 impl From<u8> for EventKind {
     ghost from_gives = { λ b kind. kind ≡ kind_of b };
 
