@@ -27,7 +27,7 @@ def functions(lines):
     """(first line, head, contract, body) of each function that has a body."""
     i = 0
     while i < len(lines):
-        match = re.match(r"(\s*)(pub )?fn \w+", lines[i])
+        match = re.match(r"(\s*)(pub(?:\(crate\))? )?fn \w+", lines[i])
         if not match:
             i += 1
             continue

@@ -3,13 +3,37 @@ use report::Refused;
 use scan::{Fault, FileFault, FileRule, Place, Section};
 use std::fmt;
 
+// What a section is called, what its count may be, and what its rows are made of.
+#[derive(Clone, Copy)]
+struct SectionWords {
+    name: &'static str,
+    count: &'static str,
+    row: &'static str,
+}
+
 // Words by match, here and below: so each case is sure to have words, and an `impl Display` of them would be longer.
-fn section_name(section: Section) -> &'static str {
+fn section_words(section: Section) -> SectionWords {
     match section {
-        Section::Events => "events",
-        Section::Variables => "variables",
-        Section::Automata => "automata",
-        Section::Transitions => "transitions",
+        Section::Events => SectionWords {
+            name: "events",
+            count: "the number of events, 1 to 64",
+            row: "a kind, 0 for controllable or 1 for uncontrollable",
+        },
+        Section::Variables => SectionWords {
+            name: "variables",
+            count: "the number of variables, 0 to 12",
+            row: "low, high, start, marked low and marked high, two bytes each",
+        },
+        Section::Automata => SectionWords {
+            name: "automata",
+            count: "the number of automata, 1 to 12",
+            row: "role, number of locations, start location, a mark for each location, number of events in the alphabet, these events",
+        },
+        Section::Transitions => SectionWords {
+            name: "transitions",
+            count: "the number of transitions, 0 to 512 in two bytes",
+            row: "automaton, from, event, to, length and bytes of the guard, number of updates, for each a variable, length and bytes of the term",
+        },
     }
 }
 
@@ -33,34 +57,13 @@ fn wrong_words(wrong: FileFault) -> &'static str {
     }
 }
 
-// What a section's count may be.
-fn count_words(section: Section) -> &'static str {
-    match section {
-        Section::Events => "the number of events, 1 to 64",
-        Section::Variables => "the number of variables, 0 to 12",
-        Section::Automata => "the number of automata, 1 to 12",
-        Section::Transitions => "the number of transitions, 0 to 512 in two bytes",
-    }
-}
-
-// What a section's row is made of.
-fn row_words(section: Section) -> &'static str {
-    match section {
-        Section::Events => "a kind, 0 for controllable or 1 for uncontrollable",
-        Section::Variables => "low, high, start, marked low and marked high, two bytes each",
-        Section::Automata =>
-            "role, number of locations, start location, a mark for each location, number of events in the alphabet, these events",
-        Section::Transitions =>
-            "automaton, from, event, to, length and bytes of the guard, number of updates, for each a variable, length and bytes of the term",
-    }
-}
-
 // What a count or a row of a section is.
 fn part_words(place: Place) -> &'static str {
+    let words = section_words(place.section);
     if place.row == 0 {
-        count_words(place.section)
+        words.count
     } else {
-        row_words(place.section)
+        words.row
     }
 }
 
@@ -69,43 +72,25 @@ fn limits_words(place: Place) -> &'static str {
     match place.section {
         Section::Automata if place.row > 0 => "1 to 64 locations, 1 to 24 events in the alphabet",
         Section::Transitions if place.row > 0 => "0 to 12 updates",
-        section => count_words(section),
-    }
-}
-
-fn zero_or_one_words(section: Section) -> &'static str {
-    match section {
-        Section::Events => "0 for controllable or 1 for uncontrollable",
-        _ => "a role, 0 for plant or 1 for specification, or a mark, 0 or 1",
-    }
-}
-
-fn number_words(section: Section) -> &'static str {
-    match section {
-        Section::Transitions =>
-            "the number of an automaton, of one of its locations, of an event or of a variable, counted from 0",
-        _ => "the number of a location or of an event, counted from 0",
-    }
-}
-
-fn order_words(section: Section) -> &'static str {
-    match section {
-        Section::Transitions =>
-            "automata that never fall from row to row, updated variables that rise within a row",
-        _ => "events of the alphabet that rise",
+        section => section_words(section).count,
     }
 }
 
 fn rule_words(rule: FileRule, place: Place) -> &'static str {
-    match rule {
-        FileRule::CountLimits => limits_words(place),
-        FileRule::ZeroOrOne => zero_or_one_words(place.section),
-        FileRule::VariableValues =>
+    match (rule, place.section) {
+        (FileRule::CountLimits, _) => limits_words(place),
+        (FileRule::ZeroOrOne, Section::Events) => "0 for controllable or 1 for uncontrollable",
+        (FileRule::ZeroOrOne, _) => "a role, 0 for plant or 1 for specification, or a mark, 0 or 1",
+        (FileRule::VariableValues, _) =>
             "-1000 <= low <= high <= 1000, low <= start <= high, low <= marked low <= marked high <= high",
-        FileRule::KnownNumber => number_words(place.section),
-        FileRule::RisingOrder => order_words(place.section),
-        FileRule::InAlphabet => "an event of the automaton's alphabet",
-        FileRule::Expression =>
+        (FileRule::KnownNumber, Section::Transitions) =>
+            "the number of an automaton, of one of its locations, of an event or of a variable, counted from 0",
+        (FileRule::KnownNumber, _) => "the number of a location or of an event, counted from 0",
+        (FileRule::RisingOrder, Section::Transitions) =>
+            "automata that never fall from row to row, updated variables that rise within a row",
+        (FileRule::RisingOrder, _) => "events of the alphabet that rise",
+        (FileRule::InAlphabet, _) => "an event of the automaton's alphabet",
+        (FileRule::Expression, _) =>
             "a length of 1 to 255, and codes of one guard or term, at most 16 deep, that use it up",
     }
 }
@@ -125,7 +110,7 @@ struct PlaceText(Place);
 impl fmt::Display for PlaceText {
     fn fmt<W: fmt::Write>(&self, f: &mut fmt::Formatter<W>) -> fmt::Result {
         let Place { section, row, byte } = self.0;
-        let section = section_name(section);
+        let section = section_words(section).name;
         if row == 0 {
             write!(f, "count of the {section}, byte {byte}")
         } else {

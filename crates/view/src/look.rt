@@ -20,7 +20,7 @@ use crate::view::View;
 use scan::Fault;
 use system::{EventKind, Range, Role};
 
-// The value whose two bytes begin at `at`.
+// The value whose two bytes begin at `at`. As a literal of expr, one call of the library; what it promises speaks of a system's values.
 fn value_at(file: &[u8], at: usize) -> i16
     requires { at + 1 < length file.now }
     ensures { (v : ℤ) → FitsSigned w16 v → Stands file.now at (value_bytes v) → result ≡ v }
