@@ -1,1 +1,2 @@
+pub mod Below
 mod Told

@@ -11,13 +11,9 @@ pub fn marked(marks: &[u8]) -> Numbers
     Numbers::from_fn(|k| marks.get(k as usize) == Some(&1))
 }
 
-// The events of an alphabet. A loop, since std's `Extend` answers a Result for the heap, which a set does not need.
+// The events of an alphabet.
 pub fn numbers_of(alphabet: &[u8]) -> Numbers
     ensures { Collects result (among alphabet.now) }
 {
-    let mut numbers = Numbers::none();
-    for event in alphabet {
-        numbers.insert(*event);
-    }
-    numbers
+    Numbers::from_fn(|k| alphabet.contains(&k))
 }

@@ -37,11 +37,10 @@ impl Source<'_> {
     pub fn byte(self, at: usize) -> Result<u8, Fault>
         ensures { MatchResult result (λ b. (at < length self.entry.file.now) × (b ≡ slice_index self.entry.file.now at)) (λ f. (length self.entry.file.now ≤ at) × (f ≡ fault_at FileFault.EndsTooSoon self.entry.origin at)) }
     {
-        // With `ok_or_else` it stayed open which fault comes back: nothing is inferred of what its closure answers.
-        match self.file.get(at) {
-            Some(b) => Ok(*b),
-            None => Err(self.fault(FileFault::EndsTooSoon, at)),
-        }
+        self.file
+            .get(at)
+            .copied()
+            .ok_or(self.fault(FileFault::EndsTooSoon, at))
     }
 
     // The byte at `at`, which breaks a rule where it fails a test.

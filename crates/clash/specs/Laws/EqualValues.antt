@@ -1,12 +1,12 @@
 -- The rules by which equal values join keep the laws.
-use Rattle.std.specs.Prelude.{◌≡◌, ℕ, Bool, true, false, cond, ◌⊎◌, ℤ, pos, refl}
+use Rattle.std.specs.Prelude.{◌≡◌, ℕ, ◌≤◌, Bool, true, false, cond, ◌⊎◌, ℤ, pos, refl}
 use Rattle.std.proofs.Common.{inl, inr, sym, ◌∙◌, arith, rules}
 use Rattle.std.proofs.Math.Bool.{or-true, or-false}
 use Rattle.std.proofs.lemmas.Int.{ints}
 use Rattle.expr.specs.Expr.{guard, Expr, eval, tested}
 use Rattle.expr.specs.declared.code.Order.TheVariants.{Eq}
 use Rattle.clash.specs.EqualValues.{joins_equal, settles_own, equal_status, equal_value, own_value, equal_values, permitted, Permission}
-use Rattle.clash.specs.Rules.{Lawful, of_pair, of_wish}
+use Rattle.clash.specs.Rules.{Lawful, Plain, of_pair, of_wish}
 use Rattle.clash.specs.Wishes.{Wish, none, single, clash, status_number}
 use Rattle.clash.specs.Laws.Shapes.{Shape, shape, is_none, is_single, is_clash_shape}
 
@@ -57,13 +57,17 @@ says_own is_none old = refl
 says_own (is_single v) old = refl
 says_own is_clash_shape old = refl
 
-says_permitted : {n : ℕ} {permits : ℤ → Bool} {e : Expr guard} → Permission n permits e → {w : Wish} → Shape w → (old : ℤ) → eval (of_wish w old) e ≡ permitted permits w old
-says_permitted {permits = permits} p is_none old = p.says_none old ∙ sym (or-true (permits old))
-says_permitted {permits = permits} p (is_single v) old = p.says_single v old ∙ sym (or-true (permits old))
-says_permitted {permits = permits} p is_clash_shape old = p.says_clash old ∙ sym (or-false (permits old))
+-- what a rule adds that permits whatever wishes it likes, but for nones and single ones: its number, and when a wish is permitted
+pub record WishesPermitted (n : ℕ) (permits : Wish → ℤ → Bool) (e : Expr guard) : Type 0 where
+  pub number_low : 1 ≤ n
+  pub number_high : n ≤ 999
+  pub for_none : (old : ℤ) → permits none old ≡ true
+  pub for_single : (v old : ℤ) → permits (single v) old ≡ true
+  pub plain : Plain 3 e
+  pub says : {w : Wish} → Shape w → (old : ℤ) → eval (of_wish w old) e ≡ permits w old
 
-pub lawful_equal_values : {n : ℕ} {permits : ℤ → Bool} {e : Expr guard} → Permission n permits e → Lawful (equal_values n (permitted permits) e)
-lawful_equal_values p = record {
+pub lawful : {n : ℕ} {permits : Wish → ℤ → Bool} {e : Expr guard} → WishesPermitted n permits e → Lawful (equal_values n permits e)
+lawful p = record {
   number_low = p.number_low;
   number_high = p.number_high;
   none_joins = λ x. refl;
@@ -73,8 +77,8 @@ lawful_equal_values p = record {
   none_settles = λ old. refl;
   single_settles = λ v old. refl;
   clash_settles = λ old. refl;
-  none_permitted = λ old. or-true _;
-  single_permitted = λ v old. or-true _;
+  none_permitted = p.for_none;
+  single_permitted = p.for_single;
   status_plain = search rules;
   value_plain = search rules;
   settled_plain = search rules;
@@ -82,5 +86,20 @@ lawful_equal_values p = record {
   says_status = λ x y. (says (shape x) (shape y)).0;
   says_value = λ x y. (says (shape x) (shape y)).1;
   says_settled = λ w old. says_own (shape w) old;
-  says_permission = λ w old. says_permitted p (shape w) old;
+  says_permission = λ w old. p.says (shape w) old;
 }
+
+says_permitted : {n : ℕ} {permits : ℤ → Bool} {e : Expr guard} → Permission n permits e → {w : Wish} → Shape w → (old : ℤ) → eval (of_wish w old) e ≡ permitted permits w old
+says_permitted {permits = permits} p is_none old = p.says_none old ∙ sym (or-true (permits old))
+says_permitted {permits = permits} p (is_single v) old = p.says_single v old ∙ sym (or-true (permits old))
+says_permitted {permits = permits} p is_clash_shape old = p.says_clash old ∙ sym (or-false (permits old))
+
+pub lawful_equal_values : {n : ℕ} {permits : ℤ → Bool} {e : Expr guard} → Permission n permits e → Lawful (equal_values n (permitted permits) e)
+lawful_equal_values p = lawful (record {
+  number_low = p.number_low;
+  number_high = p.number_high;
+  for_none = λ old. or-true _;
+  for_single = λ v old. or-true _;
+  plain = p.plain;
+  says = λ s old. says_permitted p s old;
+})

@@ -1,25 +1,16 @@
-use Rattle.std.proofs.Common.{◌≡◌, ℕ, ◌<◌, Bool, false, ◌&&◌, ◌||◌, eqb, ltb, [], ◌∷◌, length, get_or, take, sym, ap, ◌∙◌, arith}
-use Rattle.std.proofs.lemmas.List.{take_more, take_all}
-use Rattle.std.proofs.lemmas.List.Folds.{list_any-append}
+use Rattle.std.proofs.Common.{◌≡◌, ℕ, ◌||◌, eqb, List, [], ◌∷◌, refl, arith, rules}
+use Rattle.std.specs.List.{list_any}
 use Rattle.std.proofs.lemmas.Bool.Decides.{nat_tests}
 use Rattle.number_sets.specs.Sets.{among}
+use Rattle.number_sets.proofs.Below.{below}
 use Rattle.number_sets.proofs.collect.numbers_of.Goals as goal
 
-one_more : (k x : ℕ) (a : Bool) → ((ltb k 64 && a) || (eqb k x && ltb x 64)) ≡ (ltb k 64 && (a || (eqb k x || false)))
-one_more k x a = grind (arith, nat_tests)
+same_either_way : (x k : ℕ) → eqb x k ≡ eqb k x
+same_either_way x k = grind (arith, nat_tests)
 
-pub loop-event-preserved : goal.loop-event-preserved
-loop-event-preserved c k =
-    let xs = c.args.alphabet.now in
-    let i = c.loop-event.event-index in
-    let x = get_or xs i 0 in
-    let within : i < length xs = omega arith in
-    c.insert.ensures k
-    ∙ ap (λ b. b || (eqb k x && ltb x 64)) (c.loop-event.invariant k)
-    ∙ one_more k x (among (take i xs) k)
-    ∙ ap (λ b. ltb k 64 && b) (sym (list_any-append (eqb k) (take i xs) (x ∷ [])))
-    ∙ ap (λ ys. ltb k 64 && among ys k) (sym (take_more xs i 0 within))
+any_is : (k : ℕ) (xs : List ℕ) → list_any (λ y. eqb y k) xs ≡ among xs k
+any_is k [] = refl
+any_is k (x ∷ xs) = λ i. same_either_way x k i || any_is k xs i
 
 pub returns : goal.returns
-returns c k =
-    c.loop-event.invariant k ∙ ap (λ ys. ltb k 64 && among ys k) (take_all _ c.args.alphabet.now (omega arith))
+returns c k = below c.from_fn.result k (among c.args.alphabet.now k) (λ small. let h = c.from_fn.ensures k small in let e = any_is k c.args.alphabet.now in search rules)
