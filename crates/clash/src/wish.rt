@@ -10,7 +10,7 @@ pub enum Status {
 }
 
 // A wish that is not for one value carries the value 0.
-// Not an enum with a value: expressions read status and value as two variables, so each wish has both.
+// A record by the project's rule, not an enum with a value: the laws and the expressions read both parts of each wish.
 #[derive(Clone, Copy, Debug, PartialEq, Eq)]
 pub struct Wish {
     status: Status,
@@ -21,7 +21,7 @@ pub struct Wish {
 impl Wish {
     ghost use Rattle.clash.specs.Wishes.{none, single, clash};
 
-    // As `clash`: the two differ in the status alone, and a function of it would take one that may carry a value.
+    // Beside `clash`: one function of the status could be asked for a single wish with the value 0.
     pub fn none() -> Self
         ensures { result ≡ none }
     {

@@ -40,7 +40,7 @@ impl fmt::Display for TransitionText<'_> {
     }
 }
 
-// The rows of the transitions. Under its automaton each has its choice number.
+// The rows of the transitions. Each has its choice number, which counts under its automaton, whose rows stand together.
 #[derive(Clone, Copy)]
 pub struct RowsText<'a>(pub Rows<'a>);
 

@@ -1,5 +1,5 @@
-// The parts of an accepted file by their numbers; past the last one, a part that says nothing, as the model of a
-// system has it: its definitions name parts by number, so a part that may be missing would end in the same defaults.
+// The parts of an accepted file by their numbers. Past the last one stands a part that says nothing:
+// the definitions of the model name parts by number, and end in these defaults.
 ghost use Rattle.std.specs.Prelude.{◌≡◌, slice_index_or};
 ghost use Rattle.system.specs.Ranges.{variable_of};
 ghost use Rattle.system.specs.declared.kinds.EventKind.TheVariants.{Controllable};

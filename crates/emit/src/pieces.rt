@@ -11,13 +11,13 @@ use model_text::Name;
 use sinks::{Sink, put_number, put_text};
 
 // A name beside a number, as `(s0 = 3)`.
-pub fn put_compared<S: Sink>(s: &mut S, x: Name, order: Order, n: u16)
+pub fn put_compared<S: Sink>(s: &mut S, x: Name, order: Order, n: u64)
     ensures { s.new ≡ fold S.Sink.step s.old (print (compared x order n)) }
 {
     put_text(s, b"(");
     put_name(s, x);
     put_text(s, order.text());
-    put_number(s, n as u64);
+    put_number(s, n);
     put_text(s, b")");
 }
 

@@ -25,10 +25,10 @@ fn put_taken<S: Sink>(s: &mut S, k: u8, t: &Transition)
         s,
         Name::One(Single::Location, k as u16),
         Order::Eq,
-        t.from as u16,
+        t.from as u64,
     );
     put_text(s, b" & ");
-    put_compared(s, Name::Event, Order::Eq, t.event as u16);
+    put_compared(s, Name::Event, Order::Eq, t.event as u64);
     put_text(s, b") & ");
     t.guard.put(s, &Numbered);
     put_text(s, b")");

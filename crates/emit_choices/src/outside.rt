@@ -25,7 +25,7 @@ fn put_further<S: Sink>(s: &mut S, events: &[u8])
 {
     for e in events {
         put_text(s, b" & ");
-        put_compared(s, Name::Event, Order::Ne, *e as u16);
+        put_compared(s, Name::Event, Order::Ne, *e as u64);
         put_text(s, b")");
     }
 }
@@ -39,6 +39,6 @@ pub fn put_outside<S: Sink>(s: &mut S, alphabet: &[u8])
         return;
     };
     put_opening(s, others.len());
-    put_compared(s, Name::Event, Order::Ne, *first as u16);
+    put_compared(s, Name::Event, Order::Ne, *first as u64);
     put_further(s, others);
 }

@@ -17,7 +17,12 @@ fn begin_step<S: Sink>(s: &mut S, k: u8, choice: u16)
     ensures { s.new ≡ fold S.Sink.step s.old (leads_to k choice) }
 {
     put_text(s, b"TRANS (");
-    put_compared(s, Name::One(Single::Choice, k as u16), Order::Ne, choice);
+    put_compared(
+        s,
+        Name::One(Single::Choice, k as u16),
+        Order::Ne,
+        choice as u64,
+    );
     put_text(s, b" | (");
     put_name(s, Name::Two(Double::Transition, k as u16, choice));
     put_text(s, b" & (next(");

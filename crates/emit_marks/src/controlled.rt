@@ -1,4 +1,4 @@
-// Which events a plant and a specification share.
+// Which uncontrollable events a plant and a specification share.
 ghost use Rattle.std.specs.Prelude.{◌≡◌, length};
 ghost use Rattle.system.specs.System.{Automaton};
 ghost use Rattle.view.specs.Shown.{system_of, HeadShows};

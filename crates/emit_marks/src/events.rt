@@ -19,7 +19,7 @@ fn put_plants<S: Sink>(s: &mut S, view: &View, e: u8)
     end_case(s, 1);
 }
 
-// What is defined for each event that a plant and a specification share.
+// What is defined for each uncontrollable event that a plant and a specification share.
 #[derive(Drop)]
 pub struct EventDefinitions;
 

@@ -14,7 +14,7 @@ use emit::{
 };
 use expr::code::Order;
 use model_text::{Name, Single};
-use sinks::{Sink, put_number, put_text, put_value};
+use sinks::{Sink, put_text, put_value};
 use view::View;
 
 // An entry, 1 where the automaton is at the location, if the mark is 1.
@@ -22,11 +22,8 @@ fn put_location<S: Sink>(s: &mut S, k: u8, j: u64, mark: u8)
     ensures { (m : Bool) → mark ≡ mark_byte m → s.new ≡ fold S.Sink.step s.old (location_entry k j m) }
 {
     if mark == 1 {
-        put_text(s, b"(");
-        put_name(s, Name::One(Single::Location, k as u16));
-        put_text(s, b" = ");
-        put_number(s, j);
-        put_text(s, b") : 1; ");
+        put_compared(s, Name::One(Single::Location, k as u16), Order::Eq, j);
+        put_text(s, b" : 1; ");
     }
 }
 

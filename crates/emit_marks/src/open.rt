@@ -21,7 +21,7 @@ use sinks::{Sink, put_text};
 use system::Role;
 use view::Transition;
 
-// Whether automaton `k` has an open transition on event `e`.
+// The name that says whether automaton `k` has an open transition on event `e`.
 fn open_name(e: u8, k: u8) -> Name
     ensures { result ≡ N.Two Open e k }
 {
@@ -42,7 +42,7 @@ impl TransitionText for OpenEntry {
         if t.event == self.event {
             let location = Name::One(Single::Location, self.automaton as u16);
             put_text(s, b"(");
-            put_compared(s, location, Order::Eq, t.from as u16);
+            put_compared(s, location, Order::Eq, t.from as u64);
             put_text(s, b" & ");
             t.guard.put(s, &Numbered);
             put_text(s, b") : 1; ");

@@ -31,7 +31,7 @@ pub enum WishPart {
 fn update_of<'a>(updates: &Updates<'a>, i: u8) -> Option<Term<'a>>
     ensures { (us : List Update) → UpdatesOf updates.now us → MatchOption result (sought i us ≡ none) (λ x. Found x.code.now (sought i us)) }
 {
-    // By `find` it stayed open that the one found is the first of the variable.
+    // Tried by `find`: the goal stayed open that ties what it took from the iterator to the list of the updates.
     for update in *updates {
         if i == update.variable {
             return Some(update.value);
@@ -44,11 +44,16 @@ fn update_of<'a>(updates: &Updates<'a>, i: u8) -> Option<Term<'a>>
 fn begin_entry<S: Sink>(s: &mut S, k: u8, choice: u16)
     ensures { s.new ≡ fold S.Sink.step s.old (print (is_at (N.One Choice k) choice) ++ codes " : ") }
 {
-    put_compared(s, Name::One(Single::Choice, k as u16), Order::Eq, choice);
+    put_compared(
+        s,
+        Name::One(Single::Choice, k as u16),
+        Order::Eq,
+        choice as u64,
+    );
     put_text(s, b" : ");
 }
 
-// What is wished where the term is the update's.
+// What is wished where the term is the update's. A switch of two: two types of entry would repeat all but this.
 fn put_wished<S: Sink>(s: &mut S, part: WishPart, value: &Term)
     ensures { (e : Expr term) → Coded value.now.code.now e → s.new ≡ fold S.Sink.step s.old (print (wished part e)) }
 {

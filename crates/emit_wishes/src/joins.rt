@@ -31,7 +31,7 @@ fn put_expression<S: Sink, N: Names, E: Expression>(s: &mut S, x: Name, body: &E
     put_text(s, b";\n");
 }
 
-// What the wishes for variable `i` come to, up to automaton `k`.
+// What the wishes for variable `i` come to, up to automaton `k`. The two are no struct: a join is named by `k - 1`.
 pub fn put_join<S: Sink, R: Rule>(s: &mut S, i: u8, k: u8)
     ensures { s.new ≡ fold S.Sink.step s.old (join_text R.Rule.rule i k) }
 {

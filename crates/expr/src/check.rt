@@ -31,7 +31,7 @@ impl Checker<'_> {
         }
     }
 
-    // Where the expression ends, which was read to `stop`.
+    // Where the expression ends, if it was read up to `stop`.
     fn whole(self, stop: usize) -> Result<usize, Fault>
         requires { (0 < stop) × ((stop ≤ self.end) × (stop ≤ length self.source.file.now)) }
         ensures { Ended self.entry.source.file.now stop self.entry.end self.entry.source.origin result }
@@ -47,8 +47,8 @@ impl Checker<'_> {
     }
 }
 
-// An expression that can be checked in a file. A trait of its own: only where the file's lifetime is the
-// trait's do the impls take over its clauses.
+// An expression that can be checked in a file. Apart from `Expression`: an impl takes over the clauses only if the
+// trait names the file's lifetime.
 pub trait Check<'a>: Expression {
     // Where an expression ends that begins at `at` and is at most `depth` deep.
     fn end(checker: Checker<'a>, at: usize, depth: u8) -> Result<usize, Fault>

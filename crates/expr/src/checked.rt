@@ -1,5 +1,5 @@
 // Expressions that were checked: slices that are known to be the code of one.
-// Two structs: one over the kind would carry a marker of it at each literal, as `Guard { code }`. `Expression` has what they share.
+// Two structs, and `Expression` for what they share: one over the kind would carry a marker of it at each literal.
 ghost use Rattle.expr.specs.Expr.{Expr, guard, term};
 ghost use Rattle.expr.specs.Coded.{Coded};
 

@@ -62,6 +62,7 @@ impl Sign {
     }
 }
 
+// Read as an Option: a byte that means nothing has no error to tell.
 #[derive(Clone, Copy)]
 pub enum GuardCode {
     Truth(bool),

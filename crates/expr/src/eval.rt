@@ -46,8 +46,8 @@ fn variable(values: &[i16], v: u8) -> i32
     values.get(v as usize).map_or(0, |x| i32::from(*x))
 }
 
-// Here as in printing `at` moves with each call, so a struct for the code and the place would have its facts proved as often.
 // The value of the guard that stands at `at`, and where it ends.
+// As in printing, the place moves with each call: a struct for it would have its facts proved as often.
 #[cycle(guard_value_term_value)]
 fn guard_value(s: &[u8], at: usize, values: &[i16]) -> (bool, usize)
     requires long { length s.now ≤ 255 }
@@ -108,7 +108,7 @@ impl Guard<'_> {
 }
 
 impl Term<'_> {
-    // Its value, where a variable past the end of `values` is 0. No function of `Expression`: the value of a guard is of another type.
+    // Its value, where a variable past the end of `values` is 0. In `Expression` it would need a type and a bound for each.
     pub fn value(&self, values: &[i16]) -> i32
         ensures is { (e : Expr term) → Coded self.now.code.now e → result ≡ eval (value_of values.now) e }
         ensures bound { Small result }

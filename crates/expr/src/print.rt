@@ -34,8 +34,8 @@ fn truth_text(b: bool) -> &'static [u8]
     if b { b"TRUE" } else { b"FALSE" }
 }
 
-// `at` moves with each call, so a struct for the code and the place would have its facts proved as often.
 // Prints the guard that stands at `at`, and answers where it ends.
+// The place moves with each call: a struct for it would have its facts proved as often.
 #[cycle(put_guard_put_term)]
 pub(crate) fn put_guard<S: Sink, N: Names>(s: &mut S, names: &N, code: &[u8], at: usize) -> usize
     requires long { length code.now ≤ 255 }

@@ -41,7 +41,7 @@ impl Single {
         self as u8
     }
 
-    // As for `Double`: a trait over both for this one line would be longer than the line.
+    // As for `Double`: a trait for the letters of both would be longer than what it saves here and in `words`.
     pub fn from_letter(letter: u8) -> Option<Single>
         ensures { LetterOf single letter result }
     {

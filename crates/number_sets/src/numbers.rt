@@ -5,7 +5,7 @@ ghost use Rattle.number_sets.specs.Text.{text};
 
 use std::fmt;
 
-// A set of numbers below 64.
+// A set of numbers below 64: a flag for each, and no heap.
 #[derive(Clone, Copy, Debug, PartialEq, Eq)]
 pub struct Numbers {
     has: [bool; 64],

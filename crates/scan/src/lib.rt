@@ -11,7 +11,7 @@ mod refusal;
 
 pub use refusal::{Fault, FileFault, FileRule, Origin, Place, Section};
 
-// A file, and the section and row that a refusal names.
+// A file, and the section and row that a refusal names. The place is passed beside it, since it moves with each read.
 #[derive(Clone, Copy)]
 pub struct Source<'a> {
     pub file: &'a [u8],

@@ -1,4 +1,4 @@
-// The numbers by which refusals are told.
+// The numbers by which refusals are told. Methods, not conversions: only the refusal's line asks for them.
 ghost use Rattle.std.specs.Prelude.{◌≡◌};
 ghost use Rattle.scan.specs.Faults.{section_number, file_number, number as fault_number};
 

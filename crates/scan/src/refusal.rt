@@ -9,14 +9,15 @@ pub enum Section {
     Transitions = 4,
 }
 
-// Where a byte is read: its section, and its row from 1, or 0 for the section's count.
+// Where a byte is read: its section, and its row from 1, or 0 for the section's count, which is
+// a number and no Option since the refusal's line prints it so.
 #[derive(Clone, Copy, Debug, PartialEq, Eq)]
 pub struct Origin {
     pub section: Section,
     pub row: u16,
 }
 
-// Where a rule is broken: section, row and byte, which counts from 0 over the whole file.
+// Where a rule is broken: section, row and byte, which counts from 0 over the whole file. Three fields, as a refusal is told.
 #[derive(Clone, Copy, Debug, PartialEq, Eq)]
 pub struct Place {
     pub section: Section,

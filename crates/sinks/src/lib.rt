@@ -27,7 +27,7 @@ impl Sink for Count {
     }
 }
 
-// With a place, and no shrinking slice: `step` is a function of the sink's value, and each reborrow has a new name.
+// A place beside the buffer: a shrinking slice is a new reference at each byte, and `step` speaks of one.
 #[derive(Drop)]
 pub struct Filler<'a> {
     out: &'a mut [u8],
@@ -110,7 +110,7 @@ fn fill_of<D: Document>(d: &D, out: &mut [u8])
     fill_document(&mut filler, d);
 }
 
-// The text of `d` into the front of `out`, and its length; where it does not fit, nothing is written.
+// The text of `d` into the front of `out`, and its length; where it does not fit, nothing is written, and the length is the error.
 pub fn write_of<D: Document>(d: &D, out: &mut [u8]) -> Result<usize, usize>
     requires { length (D.Document.shown d.now) < 2 ^ 64 }
     ensures { Written (D.Document.shown d.now) out.old out.new result }

@@ -63,7 +63,7 @@ fn check_head(source: Source, at: usize, events: u8) -> Result<usize, Fault>
     Ok(next + 1 + size as usize)
 }
 
-// Where the automata's rows begin, and where the last one ends. No heap: at most 12 rows.
+// Where the automata's rows begin, and where the last one ends. At most 12 rows, as in a layout.
 #[derive(Clone, Copy)]
 pub struct Heads {
     pub count: u8,

@@ -5,7 +5,7 @@ ghost use Rattle.system.specs.System.{Automaton};
 ghost use Rattle.system.specs.Encode.{head_bytes};
 ghost use Rattle.system.specs.Heads.{HeadFits};
 
-// An automaton's row, which ends within its file.
+// An automaton's row, which ends within its file. What it answers is said of each automaton whose bytes stand there.
 #[derive(Clone, Copy)]
 pub struct Head<'a> {
     pub file: &'a [u8],

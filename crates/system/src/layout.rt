@@ -5,7 +5,7 @@ pub struct Layout {
     pub variables: u8,
     pub automata: u8,
     pub transitions: u16,
-    // where each automaton's row begins; no heap: at most 12
+    // where each automaton's row begins, at most 12: no heap, and no vector of fixed room, which is not Copy as views are
     pub heads: [usize; 12],
     // where the first transition's row begins
     pub rows_at: usize,

@@ -20,7 +20,7 @@ use crate::view::View;
 use scan::Fault;
 use system::{EventKind, Range, Role};
 
-// The value whose two bytes begin at `at`. As a literal of expr, one call of the library; what it promises speaks of a system's values.
+// The value whose two bytes begin at `at`. As `literal` of expr; its contract speaks of a system's values.
 fn value_at(file: &[u8], at: usize) -> i16
     requires { at + 1 < length file.now }
     ensures { (v : ℤ) → FitsSigned w16 v → Stands file.now at (value_bytes v) → result ≡ v }
@@ -42,7 +42,7 @@ fn range_at(file: &[u8], at: usize) -> Range
     }
 }
 
-// The automaton whose row begins at `at`.
+// The automaton whose row begins at `at`. Of these parts system reads two itself while it checks a file.
 fn head_at(file: &[u8], at: usize) -> Head<'_>
     requires { HeadFits file.now at }
     ensures { (A : Automaton) → Stands file.now at (head_bytes A) → HeadShows result A }

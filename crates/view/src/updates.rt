@@ -3,7 +3,7 @@ ghost use Rattle.std.specs.Prelude.{List};
 ghost use Rattle.system.specs.System.{Update};
 ghost use Rattle.view.specs.Walk.{UpdatesAt};
 
-// The updates that are left of a row: the place of the next one and their number, as they have no length in common.
+// The updates that are left of a row, by the place of the next one, as updates have no length in common.
 #[derive(Clone, Copy)]
 pub struct Updates<'a> {
     pub file: &'a [u8],

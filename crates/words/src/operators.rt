@@ -21,7 +21,7 @@ const OPERATORS: [Operator; 8] = [
 pub fn read_operator(text: &[u8]) -> Option<(Operator, &[u8])>
     ensures { Reads operators text.now result }
 {
-    // `find_map` does not tell which operators came before the one that is found.
+    // Tried by `find_map`: its goal stayed open, and the loop takes one line of invariant.
     for operator in &OPERATORS {
         if let Some(rest) = expect(text, operator.text()) {
             return Some((*operator, rest));

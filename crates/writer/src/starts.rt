@@ -17,7 +17,7 @@ impl AutomatonText for LocationStarts {
     fn put<S: Sink>(&self, s: &mut S, automaton: &Automaton) {
         let location = Name::One(Single::Location, automaton.number as u16);
         put_text(s, b"INIT ");
-        put_compared(s, location, Order::Eq, automaton.head.start as u16);
+        put_compared(s, location, Order::Eq, automaton.head.start as u64);
         put_text(s, b";\n");
     }
 }
