@@ -47,7 +47,7 @@ fn variable(values: &[i16], v: u8) -> i32
 }
 
 // The value of the guard that stands at `at`, and where it ends.
-// As in printing, the place moves with each call: a struct for it would have its facts proved as often.
+// As in printing, the place moves with each call, so no struct holds it and the code.
 #[cycle(guard_value_term_value)]
 fn guard_value(s: &[u8], at: usize, values: &[i16]) -> (bool, usize)
     requires long { length s.now ≤ 255 }

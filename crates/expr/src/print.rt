@@ -35,7 +35,8 @@ fn truth_text(b: bool) -> &'static [u8]
 }
 
 // Prints the guard that stands at `at`, and answers where it ends.
-// The place moves with each call: a struct for it would have its facts proved as often.
+// The place moves with each call: a struct for it would have its facts proved as often, and one for the length of the
+// code alone would be longer than its clause.
 #[cycle(put_guard_put_term)]
 pub(crate) fn put_guard<S: Sink, N: Names>(s: &mut S, names: &N, code: &[u8], at: usize) -> usize
     requires long { length code.now ≤ 255 }

@@ -6,6 +6,7 @@ ghost use Rattle.sinks.specs.Text.{laid, value_text};
 ghost use Rattle.sinks.specs.Post.{Written};
 ghost use Rattle.sinks.specs.Steps.{counted, filled};
 
+// What is put is passed beside its sink, as with a formatter.
 pub trait Sink {
     // What one byte makes of the sink.
     ghost step: { Self → ℕ → Self };
