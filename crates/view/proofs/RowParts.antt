@@ -1,11 +1,11 @@
 -- The parts of a transition's row, from where it begins.
-use Rattle.std.proofs.Common.{◌≡◌, ℕ, ◌+◌, ◌-◌, ◌<◌, List, ◌∷◌, length, get_or, take, drop, sym, refl, subst, arith, length-append}
+use Rattle.std.proofs.Common.{◌≡◌, ℕ, ◌+◌, ◌-◌, ◌<◌, true, List, [], ◌∷◌, length, get_or, take, drop, sym, refl, subst, arith, length-append}
 use mathlib.Core.Logic.{∥∥₁_elim, ∥∥₁_map}
 use native.Mathlib.Bridge.{le_prop}
 use Rattle.std.specs.List.{flat_map}
 use Rattle.scan.specs.Stands.{Stands}
-use Rattle.scan.proofs.Standing.{stands_head, stands_split, stands_part}
-use Rattle.expr.specs.Expr.{bytes_of}
+use Rattle.scan.proofs.Standing.{stands_none, stands_head, stands_split, stands_part}
+use Rattle.expr.specs.Expr.{truth, bytes_of}
 use Rattle.expr.specs.Coded.{Coded}
 use Rattle.system.specs.System.{Row}
 use Rattle.system.specs.Encode.{update_bytes, row_bytes}
@@ -66,3 +66,10 @@ row_standing s at left h some =
       size = ∥∥₁_elim h le_prop (λ w. let p = row_parts s at (here w).0 (here w).1 in omega arith);
       guard = ∥∥₁_elim h le_prop (λ w. let p = row_parts s at (here w).0 (here w).1 in omega arith);
     }
+
+-- the guard `TRUE`, and no updates
+pub true_coded : Coded (0x01 ∷ []) (truth true)
+true_coded = record { bytes = refl; formed = record { short = omega arith; shallow = omega arith; leaves = tt } }
+
+pub no_updates : UpdatesAt [] 0 0 []
+no_updates = record { stands = stands_none [] 0; count = refl; fine = tt }

@@ -1,10 +1,10 @@
 -- The parts of an update, from where it begins.
-use Rattle.std.proofs.Common.{◌≡◌, ℕ, ◌+◌, ◌-◌, ◌≤◌, List, length, get_or, take, drop, sym, subst, arith}
+use Rattle.std.proofs.Common.{◌≡◌, ℕ, ◌+◌, ◌-◌, ◌≤◌, List, [], ◌∷◌, length, get_or, take, drop, pos, sym, refl, subst, arith, lit<}
 use mathlib.Core.Logic.{∥∥₁_elim, ∥∥₁_map}
 use native.Mathlib.Bridge.{le_prop}
 use Rattle.scan.specs.Stands.{Stands}
 use Rattle.scan.proofs.Standing.{stands_head, stands_within, stands_part}
-use Rattle.expr.specs.Expr.{bytes_of}
+use Rattle.expr.specs.Expr.{literal, bytes_of}
 use Rattle.expr.specs.Coded.{Coded}
 use Rattle.system.specs.System.{Update}
 use Rattle.system.specs.Encode.{update_bytes}
@@ -44,3 +44,7 @@ update-standing s at left h some =
       size = ∥∥₁_elim h le_prop (λ w. let p = update-parts s at (here w).0 (here w).1 in omega arith);
       end = ∥∥₁_elim h le_prop (λ w. let p = update-parts s at (here w).0 (here w).1 in omega arith);
     }
+
+-- the term 0
+pub zero_coded : Coded (0x10 ∷ (0 ∷ (0 ∷ []))) (literal (pos 0))
+zero_coded = record { bytes = refl; formed = record { short = omega arith; shallow = omega arith; leaves = record { sfits = lit< tt } } }

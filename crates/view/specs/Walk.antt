@@ -1,8 +1,8 @@
 -- Updates and rows that stand in a file from a place on.
-use Rattle.std.specs.Prelude.{◌≡◌, ℕ, ◌+◌, ◌<◌, ◌≤◌, List, length, slice_index}
+use Rattle.std.specs.Prelude.{◌≡◌, ℕ, ◌+◌, ◌<◌, ◌≤◌, true, List, [], length, pos, slice_index}
 use Rattle.std.specs.List.{flat_map}
 use Rattle.scan.specs.Stands.{Stands}
-use Rattle.expr.specs.Expr.{Formed}
+use Rattle.expr.specs.Expr.{Formed, literal, truth}
 use Rattle.system.specs.System.{Update, Row}
 use Rattle.system.specs.Formed.{All}
 use Rattle.system.specs.Encode.{update_bytes, row_bytes}
@@ -34,6 +34,10 @@ pub record UpdateStanding (s : List ℕ) (at : ℕ) : Type 0 where
   pub size : at + 1 < length s
   pub end : at + 2 + slice_index s (at + 1) ≤ length s
 
+-- what `first` answers where no update is left
+abbrev pub to_zero : Update
+to_zero = record { variable = 0; value = literal (pos 0) }
+
 -- a row whose expressions are well formed, whatever the variables are
 pub record RowFine (r : Row) : Type 0 where
   pub guard : Formed 256 r.transition.guard
@@ -51,3 +55,7 @@ pub record RowStanding (s : List ℕ) (at : ℕ) : Type 0 where
   pub some : ∥ ((r : Row) × RowAt s at r) ∥₁
   pub size : at + 4 < length s
   pub guard : at + 5 + slice_index s (at + 4) < length s
+
+-- what `first` answers where no row is left
+abbrev pub idle_row : Row
+idle_row = record { owner = 0; transition = record { from = 0; event = 0; to = 0; guard = truth true; updates = [] } }

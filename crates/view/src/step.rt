@@ -1,10 +1,10 @@
 // Updates and rows, one after another.
-ghost use Rattle.std.specs.Prelude.{◌≡◌, ◌+◌, List, [], length, MatchOption};
+ghost use Rattle.std.specs.Prelude.{◌≡◌, ◌+◌, List, [], length, drop, slice_index_or, MatchOption};
 ghost use Rattle.std.specs.Iterator.{at_most};
 ghost use Rattle.std.specs.List.{flat_map};
 ghost use Rattle.system.specs.System.{Update as Assignment, Row};
 ghost use Rattle.system.specs.Encode.{update_bytes, row_bytes};
-ghost use Rattle.view.specs.Walk.{UpdateAt, UpdateStanding, RowAt, RowStanding};
+ghost use Rattle.view.specs.Walk.{UpdateAt, UpdateStanding, to_zero, RowAt, RowStanding, idle_row};
 ghost use Rattle.view.specs.Shown.{UpdatesOf, UpdateShows, NextUpdate, RowsOf, TransitionShows, NextRow, FirstAndRest};
 
 use crate::parts::{Transition, Update};
@@ -49,6 +49,31 @@ impl<'a> Updates<'a> {
             left: self.left - 1,
         };
         Some((update_at(self.file, self.at), rest))
+    }
+
+    // The first that is left; where none is, variable 0 to 0.
+    pub fn first(&self) -> Update<'a>
+        ensures { (us : List Assignment) → UpdatesOf self.now us → UpdateShows result (slice_index_or us 0 to_zero) }
+    {
+        match self.split_first() {
+            Some((update, _)) => update,
+            None => Update {
+                variable: 0,
+                value: Term {
+                    code: &[0x10, 0, 0],
+                },
+            },
+        }
+    }
+
+    // Those after the first.
+    pub fn rest(&self) -> Updates<'a>
+        ensures { (us : List Assignment) → UpdatesOf self.now us → UpdatesOf result (drop 1 us) }
+    {
+        match self.split_first() {
+            Some((_, rest)) => rest,
+            None => *self,
+        }
     }
 
     // Where the last ends.
@@ -126,6 +151,37 @@ impl<'a> Rows<'a> {
             left: self.left - 1,
         };
         Some((row, rest))
+    }
+
+    // The first that is left; where none is, one with every number 0, the guard `TRUE` and no updates.
+    pub fn first(&self) -> Transition<'a>
+        ensures { (rs : List Row) → RowsOf self.now rs → TransitionShows result (slice_index_or rs 0 idle_row) }
+    {
+        match self.split_first() {
+            Some((row, _)) => row,
+            None => Transition {
+                owner: 0,
+                from: 0,
+                event: 0,
+                to: 0,
+                guard: Guard { code: &[0x01] },
+                updates: Updates {
+                    file: &[],
+                    at: 0,
+                    left: 0,
+                },
+            },
+        }
+    }
+
+    // Those after the first.
+    pub fn rest(&self) -> Rows<'a>
+        ensures { (rs : List Row) → RowsOf self.now rs → RowsOf result (drop 1 rs) }
+    {
+        match self.split_first() {
+            Some((_, others)) => others,
+            None => *self,
+        }
     }
 }
 
