@@ -68,6 +68,11 @@ module _ (R : ClashRule) (s before after : List ℕ) where
   pub refused : (f : Fault) → answer s ≡ bad f → after ≡ before → Answered R s before after (Err f)
   refused f is kept = record { by_file = subst (λ o. AnsweredBy R o before after (Err f)) (sym is) (record { answer = refl; bytes = kept }) }
 
+pub passed_on : (w : Result ℕ ℕ) (r : Result ℕ Fault) → MatchResult w (λ n. r ≡ Ok n) (λ n. IsErrAnd r (λ f. f ≡ Buffer n)) → r ≡ refused_by w
+passed_on (Ok n) r e = e
+passed_on (Err n) (Ok k) e = absurd e
+passed_on (Err n) (Err f) e = ap Err e
+
 -- what holds where a call and the answer made of it are both right
 pub when_ok : (w : Result ℕ ℕ) (r : Result ℕ Fault) (Q : ℕ → Fault → Type 0) (P : ℕ → Type 0)
     → MatchResult w (λ n. r ≡ Ok n) (λ e. IsErrAnd r (Q e)) → ((n : ℕ) → w ≡ Ok n → P n) → IfOk r P
