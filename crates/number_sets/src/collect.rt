@@ -15,5 +15,10 @@ pub fn marked(marks: &[u8]) -> Numbers
 pub fn numbers_of(alphabet: &[u8]) -> Numbers
     ensures { Collects result (among alphabet.now) }
 {
-    Numbers::from_fn(|k| alphabet.contains(&k))
+    // One pass over the events; `from_fn` would search the alphabet 64 times.
+    let mut numbers = Numbers::none();
+    for event in alphabet {
+        numbers.insert(*event);
+    }
+    numbers
 }

@@ -1,16 +1,20 @@
-use Rattle.std.proofs.Common.{◌≡◌, ℕ, ◌||◌, eqb, List, [], ◌∷◌, refl, arith, rules}
-use Rattle.std.specs.List.{list_any}
-use Rattle.std.proofs.lemmas.Bool.Decides.{nat_tests}
+use Rattle.std.proofs.Common.{◌<◌, ◌&&◌, ◌||◌, eqb, ltb, length, get_or, sym, ap, ◌∙◌, arith}
+use Rattle.std.proofs.lemmas.List.{take_more, take_all}
 use Rattle.number_sets.specs.Sets.{among}
-use Rattle.number_sets.proofs.Below.{below}
+use Rattle.number_sets.proofs.Collected.{list_more}
 use Rattle.number_sets.proofs.collect.numbers_of.Goals as goal
 
-same_either_way : (x k : ℕ) → eqb x k ≡ eqb k x
-same_either_way x k = grind (arith, nat_tests)
-
-any_is : (k : ℕ) (xs : List ℕ) → list_any (λ y. eqb y k) xs ≡ among xs k
-any_is k [] = refl
-any_is k (x ∷ xs) = λ i. same_either_way x k i || any_is k xs i
+pub loop-event-preserved : goal.loop-event-preserved
+loop-event-preserved c k =
+    let xs = c.args.alphabet.now in
+    let i = c.loop-event.event-index in
+    let x = get_or xs i 0 in
+    let within : i < length xs = omega arith in
+    c.insert.ensures k
+    ∙ ap (λ b. b || (eqb k x && ltb x 64)) (c.loop-event.invariant k)
+    ∙ list_more _ x k
+    ∙ ap (λ ys. ltb k 64 && among ys k) (sym (take_more xs i 0 within))
 
 pub returns : goal.returns
-returns c k = below c.from_fn.result k (among c.args.alphabet.now k) (λ small. let h = c.from_fn.ensures k small in let e = any_is k c.args.alphabet.now in search rules)
+returns c k =
+    c.loop-event.invariant k ∙ ap (λ ys. ltb k 64 && among ys k) (take_all _ c.args.alphabet.now (omega arith))
