@@ -1,15 +1,13 @@
 -- A number from the run of digits at the head of a text.
-use Rattle.std.proofs.Common.{◌≡◌, ℕ, ◌^◌, ◌<◌, ◌≤◌, ◌⊎◌, List, [], ◌∷◌, ◌++◌, length, get_or, take, drop, Option, Some, None, MatchOption, Result, Ok, Err, MatchResult, Bor, unwrap_or, decimal, sym, ap, ◌∙◌, inl, inr, arith, length-append, length-take}
-use Rattle.std.specs.Result.{result_ok, OkIff}
-use Rattle.std.specs.Str.{IsUtf8}
-use Rattle.std.specs.Str.Parse.{digits_value}
+use Rattle.std.proofs.Common.{◌≡◌, ℕ, ◌+◌, ◌^◌, ◌<◌, ◌≤◌, ◌⊎◌, List, zero, suc, ◌-◌, ◌*◌, [], ◌∷◌, ◌++◌, length, get_or, take, drop, Option, Some, None, MatchOption, unwrap_or, decimal, sym, ap, ◌∙◌, inl, inr, arith, length-append, length-take}
+use Rattle.std.specs.Char.{digit_value}
+use Rattle.std.specs.Str.Parse.{digits_value, digits_value_after}
 use Rattle.std.specs.List.{All, AllByRecursion, AllWithin, HoldsAt}
 use Rattle.std.proofs.lemmas.List.{take-append-drop, drop_more, drop_all, get_or-take}
-use Rattle.std.proofs.lemmas.Str.{IsUtf8-from_ascii}
-use Rattle.std.proofs.lemmas.List.Elements.{All-nil, All-cons, All-head, All-tail, All-weaker, All-from_get_or, recursion_from_All}
-use Rattle.std.proofs.lemmas.Str.Ascii.{IsAscii-from_all}
+use Rattle.std.proofs.lemmas.List.Elements.{All-nil, All-cons, All-head, All-tail, All-get_or, All-from_get_or, recursion_from_All}
 use Rattle.std.proofs.ByRecursion.{All-weaker as weaker}
-use Rattle.std.proofs.lemmas.Bool.{cases_lt, cases_eq}
+use Rattle.std.proofs.lemmas.Bool.{cases_eq, le-ltb, lt-ltb}
+use Rattle.std.proofs.lemmas.Int.Digits.{digits_value_more}
 use Rattle.std.proofs.lemmas.Str.Parse.{IsNumeralModel, numerals_by_value}
 use Rattle.std.proofs.lemmas.Fmt.{decimal-digits_value, decimal_injective, digits_value-decimal, decimal_nonempty, decimal_digit, first_decimal}
 use Rattle.model_text.proofs.Munch.{Halts, munch, digits_all}
@@ -24,28 +22,29 @@ own = numerals_by_value (λ ds. All Digit ds) (record {
   more = λ c cs i h. All-cons Digit c cs (record { low = i.0; high = i.1 }) h;
 })
 
-digits_utf8 : (ds : List ℕ) → All Digit ds → IsUtf8 ds
-digits_utf8 ds all = IsUtf8-from_ascii ds (IsAscii-from_all ds (All-weaker Digit (λ b. b < 128) (λ b d. omega (arith, d.high)) ds all))
+digit_is : (b : ℕ) → Digit b → digit_value b ≡ b - 48
+digit_is b d = rw (le-ltb b 48 d.low, lt-ltb b 58 (omega (arith, d.high)))
 
--- what reading digits as text and then as a number answers
-module _ (ds : List ℕ) (all : All Digit ds) where
-  abbrev TextOf : {E : Type 0} (P : E → Type 0) → Result (Bor (List ℕ)) E → Type 0
-  TextOf P r = MatchResult r (λ t. (t.now ≡ ds) × IsUtf8 ds) (λ e. ¬ IsUtf8 ds × P e)
+-- a number only grows with the digits behind it
+after_least : (ds : List ℕ) (n : ℕ) → n ≤ digits_value_after 10 n ds
+after_least [] n = omega arith
+after_least (b ∷ ds) n = let e = after_least ds (n * 10 + digit_value b) in omega (arith, e)
 
-  pub digits_read : {E : Type 0} (P : E → Type 0) (r : Result (Bor (List ℕ)) E) → TextOf P r → result_ok r ≡ None → ⊥
-  digits_read P (Ok t) h z = cc
-  digits_read P (Err e) h z = h.0 (digits_utf8 ds all)
+front_least : (i : ℕ) (ds : List ℕ) (n : ℕ) → digits_value_after 10 n (take i ds) ≤ digits_value_after 10 n ds
+front_least zero ds n = after_least ds n
+front_least (suc i) [] n = omega arith
+front_least (suc i) (b ∷ ds) n = front_least i ds (n * 10 + digit_value b)
 
-  pub digits_text : {E : Type 0} (P : E → Type 0) (r : Result (Bor (List ℕ)) E) → TextOf P r → (t : Bor (List ℕ)) → Some t ≡ result_ok r → t.now ≡ ds
-  digits_text P (Ok x) h t z = let e : t ≡ x = cc in ap (λ w. w.now) e ∙ h.0
-  digits_text P (Err e) h t z = cc
+-- a number that is read digit by digit
+module _ (ds : List ℕ) (all : All Digit ds) (i v : ℕ) (within : i < length ds) (so_far : v ≡ digits_value 10 (take i ds)) where
+  pub one_more : v * 10 + (get_or ds i 0 - 48) ≡ digits_value 10 (take (i + 1) ds)
+  one_more =
+      ap (λ n. n * 10 + (get_or ds i 0 - 48)) so_far
+      ∙ ap (λ d. digits_value 10 (take i ds) * 10 + d) (sym (digit_is (get_or ds i 0) (All-get_or Digit ds i 0 within all)))
+      ∙ sym (digits_value_more 10 ds i within)
 
-  pub digits_number : {E : Type 0} (r : Result ℕ E) → OkIff r ((0 < length ds) × (digits_value 10 ds < 2 ^ 32)) (digits_value 10 ds) → Spells ds (result_ok r)
-  digits_number (Ok v) h = (h.0.0, h.1)
-  digits_number (Err e) h = elim (cases_lt 0 (length ds)) [
-    | inl some ↦ elim (cases_lt (digits_value 10 ds) (2 ^ 32)) [ inl small ↦ absurd (h (some, small)) | inr large ↦ inr large ]
-    | inr none ↦ inl (omega arith)
-  ]
+  pub too_many : 2 ^ 32 ≤ v * 10 + (get_or ds i 0 - 48) → Spells ds None
+  too_many large = let least = front_least (i + 1) ds 0 in inr (omega (arith, one_more, least))
 
 halts : (rest : List ℕ) → NoDigit rest → Halts Digit rest
 halts [] h = tt
@@ -70,7 +69,7 @@ module _ (s digits rest : List ℕ) (run : Run s digits rest) where
 
   module _ (max : ℕ) (small : max < 2 ^ 32) where
     pub zero_led : get_or digits 0 0 ≡ 48 → 1 < length digits → Nothing (numbers max) s
-    zero_led zero long =
+    zero_led led long =
         record {
           none = λ n r h follow t.
               let m = matches n r (omega arith) follow t in
@@ -99,8 +98,8 @@ module _ (s digits rest : List ℕ) (run : Run s digits rest) where
           }
 
       pub a_number : 0 < length digits → (get_or digits 0 0 ≡ 48 → length digits ≡ 1) → v ≤ max → Found (numbers max) s v rest
-      a_number some zero low =
-          let d : decimal v ≡ digits = ap decimal is ∙ decimal-digits_value own digits run.all some zero (omega (arith, is)) in
+      a_number some led low =
+          let d : decimal v ≡ digits = ap decimal is ∙ decimal-digits_value own digits run.all some led (omega (arith, is)) in
           record { good = low; text = run.splits ∙ ap (λ z. z ++ rest) (sym d); ends = run.ends; shorter = omega (arith, simp length-append at (ap length run.splits)) }
 
 -- where the first byte stands that is no digit

@@ -19,7 +19,14 @@ fn value_of(digits: &[u8]) -> Option<u32>
     requires { All Digit digits.now }
     ensures { Spells digits.now result }
 {
-    str::from_utf8(digits).ok()?.parse().ok()
+    if digits.is_empty() {
+        return None;
+    }
+    let mut value: u32 = 0;
+    for b in digits {
+        value = value.checked_mul(10)?.checked_add(u32::from(*b - b'0'))?;
+    }
+    Some(value)
 }
 
 // A number up to `max`, with no further digit behind it.

@@ -1,15 +1,12 @@
-use Rattle.std.proofs.Common.{sym, ◌∙◌}
-use Rattle.std.specs.Str.{IsValidUpTo, valid_up_to}
-use Rattle.std.proofs.lemmas.Str.Parse.{parse_digits}
-use Rattle.words.proofs.Decimal.{own, digits_read, digits_text, digits_number}
+use Rattle.std.proofs.Common.{arith}
+use Rattle.words.proofs.Decimal.{one_more, too_many}
 use Rattle.words.proofs.numbers.value_of.Goals as goal
 
-pub returns-in_err-ok : goal.returns-in_err-ok
-returns-in_err-ok c =
-    absurd (digits_read c.args.digits.now c.requires (λ e. IsValidUpTo c.args.digits.now (valid_up_to e)) c.from_utf8.result c.from_utf8.ensures.cases (sym c.ok.ensures.value ∙ c.in_err-ok.was))
+pub returns-in_err-checked_mul : goal.returns-in_err-checked_mul
+returns-in_err-checked_mul c = rw c.from_residual.ensures (too_many _ c.requires _ _ c.loop-b-test.true c.loop-b.invariant (omega arith))
 
-pub returns : goal.returns
-returns c =
-    let ds = c.args.digits.now in
-    let same = digits_text ds c.requires (λ e. IsValidUpTo ds (valid_up_to e)) c.from_utf8.result c.from_utf8.ensures.cases c.in_ok-ok.field-0 c.in_ok-ok.ensures.value in
-    rw c.ok-2.ensures.value (digits_number ds c.requires c.parse.result (parse_digits own 32 ds c.parse.result (rw same at c.parse.ensures.value.0) c.requires))
+pub returns-in_err-value : goal.returns-in_err-value
+returns-in_err-value c = rw c.from_residual-in_err-value.ensures (too_many _ c.requires _ _ c.loop-b-test.true c.loop-b.invariant (omega arith))
+
+pub loop-b-preserved : goal.loop-b-preserved
+loop-b-preserved c = let e = one_more _ c.requires _ _ c.loop-b-test.true c.loop-b.invariant in omega (arith, e)
