@@ -1,6 +1,6 @@
 -- The rules by which equal values join keep the laws.
 use Rattle.std.specs.Prelude.{◌≡◌, ℕ, ◌≤◌, Bool, true, false, cond, ◌⊎◌, ℤ, pos, refl}
-use Rattle.std.proofs.Common.{inl, inr, sym, ◌∙◌, arith, rules}
+use Rattle.std.proofs.Common.{inl, inr, sym, ◌∙◌, arith}
 use Rattle.std.proofs.Math.Bool.{or-true, or-false}
 use Rattle.std.proofs.lemmas.Int.{ints}
 use Rattle.expr.specs.Expr.{guard, Expr, eval, tested}
@@ -8,6 +8,7 @@ use Rattle.expr.specs.declared.code.Order.TheVariants.{Eq}
 use Rattle.clash.specs.EqualValues.{joins_equal, settles_own, equal_status, equal_value, own_value, equal_values, permitted, Permission}
 use Rattle.clash.specs.Rules.{Lawful, Plain, of_pair, of_wish}
 use Rattle.clash.specs.Wishes.{Wish, none, single, clash, status_number}
+use Rattle.clash.specs.Laws.Plain.{plain}
 use Rattle.clash.specs.Laws.Shapes.{Shape, shape, is_none, is_single, is_clash_shape}
 
 comm : {x y : Wish} → Shape x → Shape y → joins_equal x y ≡ joins_equal y x
@@ -79,9 +80,9 @@ lawful p = record {
   clash_settles = λ old. refl;
   none_permitted = p.for_none;
   single_permitted = p.for_single;
-  status_plain = search rules;
-  value_plain = search rules;
-  settled_plain = search rules;
+  status_plain = plain 4 equal_status refl;
+  value_plain = plain 4 equal_value refl;
+  settled_plain = plain 3 own_value refl;
   permission_plain = p.plain;
   says_status = λ x y. (says (shape x) (shape y)).0;
   says_value = λ x y. (says (shape x) (shape y)).1;
