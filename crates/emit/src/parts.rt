@@ -42,5 +42,5 @@ pub fn kind_of(view: &View, e: u8) -> EventKind
 pub fn is_in(e: u8, alphabet: &[u8]) -> bool
     ensures { result ≡ is_in e alphabet.now }
 {
-    alphabet.contains(&e)
+    alphabet.iter().any(|x| e == *x)
 }
