@@ -1,17 +1,17 @@
 -- A number from the run of digits at the head of a text.
-use Rattle.std.proofs.Common.{◌≡◌, ℕ, ◌+◌, ◌^◌, ◌<◌, ◌≤◌, ◌⊎◌, List, zero, suc, ◌-◌, ◌*◌, [], ◌∷◌, ◌++◌, length, get_or, take, drop, Option, Some, None, MatchOption, unwrap_or, decimal, sym, ap, ◌∙◌, inl, inr, arith, length-append, length-take}
+use Rattle.std.proofs.Common.{◌≡◌, ℕ, ◌+◌, ◌^◌, ◌<◌, ◌≤◌, List, ◌-◌, ◌*◌, [], ◌∷◌, ◌++◌, length, get_or, take, drop, Option, Some, None, MatchOption, unwrap_or, decimal, sym, ap, ◌∙◌, inl, inr, arith, length-append, length-take}
 use Rattle.std.specs.Char.{digit_value}
-use Rattle.std.specs.Str.Parse.{digits_value, digits_value_after}
+use Rattle.std.specs.Str.Parse.{digits_value}
 use Rattle.std.specs.List.{All, AllByRecursion, AllWithin, HoldsAt}
 use Rattle.std.proofs.lemmas.List.{take-append-drop, drop_more, drop_all, get_or-take}
-use Rattle.std.proofs.lemmas.List.Elements.{All-nil, All-cons, All-head, All-tail, All-get_or, All-from_get_or, recursion_from_All}
+use Rattle.std.proofs.lemmas.List.Elements.{All-nil, All-cons, All-head, All-tail, All-get_or, All-take, All-from_get_or, recursion_from_All}
 use Rattle.std.proofs.ByRecursion.{All-weaker as weaker}
 use Rattle.std.proofs.lemmas.Bool.{cases_eq, le-ltb, lt-ltb}
 use Rattle.std.proofs.lemmas.Int.Digits.{digits_value_more}
-use Rattle.std.proofs.lemmas.Str.Parse.{IsNumeralModel, numerals_by_value}
-use Rattle.std.proofs.lemmas.Fmt.{decimal-digits_value, decimal_injective, digits_value-decimal, decimal_nonempty, decimal_digit, first_decimal}
+use Rattle.std.proofs.lemmas.Str.Parse.{IsNumeralModel, numerals_by_value, digits_value_short}
+use Rattle.std.proofs.lemmas.Fmt.{decimal-digits_value, decimal_injective, digits_value-decimal, decimal_nonempty, decimal_digit, first_decimal, length-decimal-le}
 use Rattle.model_text.proofs.Munch.{Halts, munch, digits_all}
-use Rattle.words.specs.Digits.{Digit, NoDigit, Run, Spells}
+use Rattle.words.specs.Digits.{Digit, NoDigit, Run}
 use Rattle.words.specs.Forms.{numbers}
 use Rattle.words.specs.Readings.{Found, Nothing}
 
@@ -25,16 +25,6 @@ own = numerals_by_value (λ ds. All Digit ds) (record {
 digit_is : (b : ℕ) → Digit b → digit_value b ≡ b - 48
 digit_is b d = rw (le-ltb b 48 d.low, lt-ltb b 58 (omega (arith, d.high)))
 
--- a number only grows with the digits behind it
-after_least : (ds : List ℕ) (n : ℕ) → n ≤ digits_value_after 10 n ds
-after_least [] n = omega arith
-after_least (b ∷ ds) n = let e = after_least ds (n * 10 + digit_value b) in omega (arith, e)
-
-front_least : (i : ℕ) (ds : List ℕ) (n : ℕ) → digits_value_after 10 n (take i ds) ≤ digits_value_after 10 n ds
-front_least zero ds n = after_least ds n
-front_least (suc i) [] n = omega arith
-front_least (suc i) (b ∷ ds) n = front_least i ds (n * 10 + digit_value b)
-
 -- a number that is read digit by digit
 module _ (ds : List ℕ) (all : All Digit ds) (i v : ℕ) (within : i < length ds) (so_far : v ≡ digits_value 10 (take i ds)) where
   pub one_more : v * 10 + (get_or ds i 0 - 48) ≡ digits_value 10 (take (i + 1) ds)
@@ -43,8 +33,9 @@ module _ (ds : List ℕ) (all : All Digit ds) (i v : ℕ) (within : i < length d
       ∙ ap (λ d. digits_value 10 (take i ds) * 10 + d) (sym (digit_is (get_or ds i 0) (All-get_or Digit ds i 0 within all)))
       ∙ sym (digits_value_more 10 ds i within)
 
-  pub too_many : 2 ^ 32 ≤ v * 10 + (get_or ds i 0 - 48) → Spells ds None
-  too_many large = let least = front_least (i + 1) ds 0 in inr (omega (arith, one_more, least))
+-- ten digits or fewer spell less than 10 ^ 10
+pub front_small : (ds : List ℕ) → All Digit ds → (i : ℕ) → i ≤ 10 → digits_value 10 (take i ds) < 10 ^ 10
+front_small ds all i few = digits_value_short own (take i ds) 10 (All-take Digit i ds all) (simp length-take (omega arith))
 
 halts : (rest : List ℕ) → NoDigit rest → Halts Digit rest
 halts [] h = tt
@@ -79,14 +70,11 @@ module _ (s digits rest : List ℕ) (run : Run s digits rest) where
               ];
         }
 
-    pub no_value : (length digits ≡ 0) ⊎ (2 ^ 32 ≤ digits_value 10 digits) → Nothing (numbers max) s
-    no_value (inl none) = record { none = λ n r h follow t. omega (arith, decimal_nonempty n (omega arith), ap length (matches n r (omega arith) follow t)) }
-    no_value (inr large) =
-        record {
-          none = λ n r h follow t.
-              let e : digits_value 10 digits ≡ n = ap (digits_value 10) (matches n r (omega arith) follow t) ∙ digits_value-decimal own n (omega arith) in
-              omega arith;
-        }
+    pub no_digits : length digits ≡ 0 → Nothing (numbers max) s
+    no_digits none = record { none = λ n r h follow t. omega (arith, decimal_nonempty n (omega arith), ap length (matches n r (omega arith) follow t)) }
+
+    pub too_long : 10 < length digits → Nothing (numbers max) s
+    too_long long = record { none = λ n r h follow t. omega (arith, length-decimal-le 10 n (omega arith) (omega arith) (omega arith), ap length (matches n r (omega arith) follow t)) }
 
     module _ (v : ℕ) (is : v ≡ digits_value 10 digits) where
       pub too_large : max < v → Nothing (numbers max) s

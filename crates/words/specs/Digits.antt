@@ -1,6 +1,5 @@
 -- The ten digits, and the run of them at the head of a text.
-use Rattle.std.specs.Prelude.{◌≡◌, ℕ, ◌^◌, ◌<◌, ◌≤◌, ◌⊎◌, List, [], ◌∷◌, ◌++◌, length, Option, MatchOption, All}
-use Rattle.std.specs.Str.Parse.{digits_value}
+use Rattle.std.specs.Prelude.{◌≡◌, ℕ, ◌≤◌, List, [], ◌∷◌, ◌++◌, All}
 
 pub record Digit (b : ℕ) : Type 0 where
   pub low : 48 ≤ b
@@ -16,7 +15,3 @@ pub record Run (s digits rest : List ℕ) : Type 0 where
   pub splits : s ≡ digits ++ rest
   pub all : All Digit digits
   pub ends : NoDigit rest
-
--- the number that digits spell, unless there are none or it does not fit 32 bits
-abbrev pub Spells : List ℕ → Option ℕ → Type 0
-Spells ds r = MatchOption r ((length ds ≡ 0) ⊎ (2 ^ 32 ≤ digits_value 10 ds)) (λ v. (0 < length ds) × (v ≡ digits_value 10 ds))

@@ -1,6 +1,7 @@
 // Numbers in decimal.
-ghost use Rattle.std.specs.Prelude.{All};
-ghost use Rattle.words.specs.Digits.{Digit, Run, Spells};
+ghost use Rattle.std.specs.Prelude.{◌≡◌, ◌≤◌, length, All};
+ghost use Rattle.std.specs.Str.Parse.{digits_value};
+ghost use Rattle.words.specs.Digits.{Digit, Run};
 ghost use Rattle.words.specs.Forms.{numbers, signeds, minuses};
 ghost use Rattle.words.specs.Readings.{Reads};
 
@@ -14,19 +15,17 @@ fn split_digits(text: &[u8]) -> (&[u8], &[u8])
     text.split_at(end.unwrap_or(text.len()))
 }
 
-// The number that digits spell, if there are any and it fits.
-fn value_of(digits: &[u8]) -> Option<u32>
-    requires { All Digit digits.now }
-    ensures { Spells digits.now result }
+// The number that up to ten digits spell. Summed by a loop: `from_utf8` and `parse` took more than twice as long.
+fn value_of(digits: &[u8]) -> u64
+    requires digits { All Digit digits.now }
+    requires few { length digits.now ≤ 10 }
+    ensures { result ≡ digits_value 10 digits.now }
 {
-    if digits.is_empty() {
-        return None;
-    }
-    let mut value: u32 = 0;
+    let mut value: u64 = 0;
     for b in digits {
-        value = value.checked_mul(10)?.checked_add(u32::from(*b - b'0'))?;
+        value = value * 10 + u64::from(*b - b'0');
     }
-    Some(value)
+    value
 }
 
 // A number up to `max`, with no further digit behind it.
@@ -34,14 +33,17 @@ pub fn read_number(text: &[u8], max: u32) -> Option<(u32, &[u8])>
     ensures { Reads (numbers max) text.now result }
 {
     let (digits, rest) = split_digits(text);
-    if digits.len() > 1 && digits[0] == b'0' {
+    if digits.is_empty() || digits.len() > 10 {
         return None;
     }
-    let value = value_of(digits)?;
-    if value > max {
+    if digits[0] == b'0' && digits.len() > 1 {
         return None;
     }
-    Some((value, rest))
+    let value = value_of(digits);
+    if value > max as u64 {
+        return None;
+    }
+    Some((value as u32, rest))
 }
 
 // `7` or `-7`, with no further digit behind it.
